@@ -1,0 +1,66 @@
+-- The way into a child of a map of level k, which has the level j below k: its part of the words, and a position in it.
+-- Assumes nothing.
+use mathlib.Core.Path.{_≡_, ap, _∙_}
+use mathlib.Core.List.{List}
+use Prim.Native.Nat.{ℕ, suc, _+_, _-_, _*_, _/_, _%_, _<_, _≤_}
+use native.Mathlib.Nat.{div-lt-iff-lt-mul}
+use native.Mathlib.Omega.{arith}
+use lib.ListN.{length}
+use borrow.Rule.Slice.PartMut.{put-same}
+use Rattle.bitmap.specs.Bits.{bit}
+use Rattle.bitmap.specs.Tree.{words, cap, own, child, leaf?}
+use Rattle.bitmap.proofs.Levels.{words-node, cap-node, cap-pos, words-small}
+use Rattle.bitmap.proofs.Rows.{part-within, length-child}
+use Rattle.bitmap.proofs.Parts.{lent, back, lent-child}
+
+-- the level below
+pub level-below : {k : ℕ} → (k ≡ 0 → ⊥) → suc (k - 1) ≡ k
+level-below ne = omega arith
+
+-- ---- a child's part
+
+-- child i of the words s, where each child has n words
+pub record Entered (j : ℕ) (s : List ℕ) (i n : ℕ) : Type 0 where
+  pub size : n ≡ words j
+  pub len : length s ≡ words (suc j)
+  pub at : i < 16
+  pub ends : 1 + i * n + n ≤ length s
+  pub small : length s ≤ 17895697
+
+pub enter : {k j : ℕ} {s : List ℕ} {i n : ℕ} → suc j ≡ k → k ≤ 6 → length s ≡ words k → n ≡ length s / 16 → i < 16 → Entered j s i n
+enter {k} {j} {s} {i} {n} up le ls en at =
+    let size : n ≡ words j = omega (arith, words-node j, ap words up) in
+    record {
+      size = size;
+      len = rw up ls;
+      at = at;
+      ends = omega (arith, words-node j, ap words up, part-within i n at);
+      small = omega (arith, words-small k le);
+    }
+
+module _ {j : ℕ} {s : List ℕ} {i n : ℕ} (h : Entered j s i n) where
+  -- what is lent is the child
+  pub entered-part : lent n s i ≡ child j s i
+  entered-part = lent-child j s i n (h .size)
+
+  pub entered-length : length (lent n s i) ≡ words j
+  entered-length = ap length entered-part ∙ length-child j s (h .len) i (h .at)
+
+  -- what comes back as it was lent changes nothing
+  pub entered-same : {ys : List ℕ} → ys ≡ lent n s i → back n s i ys ≡ s
+  entered-same e = ap (back n s i) e ∙ put-same (1 + i * n) (1 + i * n + n - (1 + i * n)) s
+
+-- ---- a position
+
+-- it is in one of the 16 children
+pub position-child : {k j : ℕ} (p : ℕ) → suc j ≡ k → p < cap k → p / cap j < 16
+position-child {k} {j} p up l = div-lt-iff-lt-mul (cap-pos j) .1 (omega (arith, cap-node j, ap cap up))
+
+-- its leaf bit, in a leaf word and in a child
+pub leaf-word : {k : ℕ} (s : List ℕ) (p : ℕ) → k ≡ 0 → leaf? k s p ≡ bit (own s) p
+unfolding leaf?
+leaf-word s p e = rw e
+
+pub leaf-child : {k j : ℕ} (s : List ℕ) (p : ℕ) → suc j ≡ k → leaf? k s p ≡ leaf? j (child j s (p / cap j)) (p % cap j)
+unfolding leaf?
+leaf-child s p up = rw (← up)

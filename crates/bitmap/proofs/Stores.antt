@@ -1,0 +1,53 @@
+-- A lent store: one whose word count is none of the seven, and one of level k, whose words are a map. Assumes nothing.
+use mathlib.Core.Path.{_≡_, sym, ap, _∙_}
+use mathlib.Core.Bool.{Bool, cond}
+use mathlib.Core.List.{List}
+use Prim.Native.Nat.{ℕ, _≤_}
+use native.Mathlib.Omega.{arith}
+use lib.ListN.{length}
+use lib.Dec.{leb}
+use borrow.Author.Tests.{lt-leb}
+use Rattle.bitmap.specs.Answer.{Said, given, refused, refuse}
+use Rattle.bitmap.specs.Tree.{words}
+use Rattle.bitmap.specs.Calls.{levelOf, answer, after, settle}
+use Rattle.bitmap.proofs.Levels.{words-level}
+use Rattle.bitmap.proofs.Refusals.{settle-no, settle-on}
+
+module _ (s : List ℕ) (k : ℕ) (is : (k ≡ levelOf (length s)) × (k ≤ 7)) where
+  -- no level: refusal 1, and the words stay
+  module _ (e : k ≡ 7) where
+    none : leb 7 (levelOf (length s)) ≡ leb 7 7
+    none = ap (leb 7) (sym (is .0) ∙ e)
+
+    pub answer-none : (f : ℕ → List ℕ → Said) → refused 1 ≡ answer f s
+    unfolding answer
+    answer-none f = sym (ap (λ (b : Bool). refuse 1 b (f (levelOf (length s)) s)) none)
+
+    pub after-none : (f : ℕ → List ℕ → List ℕ) → s ≡ after f s
+    unfolding after
+    after-none f = sym (ap (λ (b : Bool). cond b s (f (levelOf (length s)) s)) none)
+
+  -- a level: the call is that of the map
+  module _ (ne : k ≡ 7 → ⊥) where
+    pub level : k ≤ 6
+    level = omega arith
+
+    pub sized : length s ≡ words k
+    sized = sym (ap words (is .0) ∙ words-level (length s) (omega arith))
+
+    pub answer-at : (f : ℕ → List ℕ → Said) → f k s ≡ answer f s
+    unfolding answer
+    answer-at f = sym (rw (lt-leb 7 (levelOf (length s)) (omega arith)) (ap (λ (n : ℕ). f n s) (sym (is .0))))
+
+    pub after-at : (f : ℕ → List ℕ → List ℕ) → f k s ≡ after f s
+    unfolding after
+    after-at f = sym (rw (lt-leb 7 (levelOf (length s)) (omega arith)) (ap (λ (n : ℕ). f n s) (sym (is .0))))
+
+    -- a call that settles: a refusal leaves the words as lent, and a value is made into words
+    module _ (f : ℕ → List ℕ → Said) (made : ℕ → List ℕ → ℕ → List ℕ) where
+      pub refused-at : (n : ℕ) → refused n ≡ f k s → (refused n ≡ answer f s) × (s ≡ after (λ k s. settle (f k s) s (made k s)) s)
+      refused-at n e = (e ∙ answer-at f, settle-no (f k s) n s (made k s) e ∙ after-at (λ k s. settle (f k s) s (made k s)))
+
+      pub given-at : (v : ℕ) (t : List ℕ) → given v ≡ f k s → t ≡ made k s v
+          → (given v ≡ answer f s) × (t ≡ after (λ k s. settle (f k s) s (made k s)) s)
+      given-at v t e h = (e ∙ answer-at f, h ∙ settle-on (f k s) v s (made k s) e ∙ after-at (λ k s. settle (f k s) s (made k s)))

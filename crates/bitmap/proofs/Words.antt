@@ -1,0 +1,102 @@
+-- What the machine forms compute: shifts, masks, bits set and cleared, and a count of zeros. Assumes nothing.
+use mathlib.Core.Path.{_≡_, refl, sym, ap, _∙_}
+use mathlib.Core.Bool.{Bool, true, false, cond, not, _&&_, _||_}
+use Prim.Native.Nat.{ℕ, zero, suc, _+_, _-_, _*_, _/_, _%_, _^_, _≤_, _<_}
+use native.Mathlib.Nat.{one-mul, mod-eq-of-lt, lt-of-le-of-lt, div-mul-le-self, div-one, zero-add, add-zero, suc-add, add-suc}
+use native.Mathlib.Numerals.{add-one}
+use native.Mathlib.Omega.{arith}
+use lib.Pow.{pow-mono, pow-lt, pow-pos, shr-shr}
+use lib.Bits.{bitAnd, bitOr, and-lt, or-lt, and-mask}
+use lib.Dec.{eqb}
+use lib.Count.{trailingZeros, under}
+use Rattle.bitmap.specs.Search.{firstFrom}
+use Rattle.bitmap.specs.Bits.{bit, digit, wordOf, within}
+use Rattle.bitmap.proofs.Bits.{digit-at, bit-pack, pack-lt, is-pack, mask-bit, pow-bit, not-bit, and-bit, or-bit}
+
+-- ---- shifts and masks
+
+-- `(w >> i) & 1 == 1`
+pub test-is : (w i : ℕ) → eqb (bitAnd (w / 2 ^ i) 1) 1 ≡ bit w i
+unfolding bit
+test-is w i = rw (and-mask (w / 2 ^ i) 1)
+
+-- `1 << i`
+pub shl-one : (n i : ℕ) → i < n → 1 * 2 ^ i % 2 ^ n ≡ 2 ^ i
+shl-one n i h = rw (one-mul, mod-eq-of-lt (pow-lt h))
+
+-- `(1 << i) - 1` does not wrap
+pub shl-pos : (n i : ℕ) → i < n → 1 ≤ 1 * 2 ^ i % 2 ^ n
+shl-pos n i h = rw (shl-one n i h) (pow-pos i)
+
+-- `p & ((1 << i) - 1)`
+pub rest-is : (n p i : ℕ) → i < n → bitAnd p (1 * 2 ^ i % 2 ^ n - 1) ≡ p % 2 ^ i
+rest-is n p i h = rw (shl-one n i h) (and-mask p i)
+
+-- `(p >> i) << i`
+pub floor-is : (n i p : ℕ) → p < 2 ^ n → p / 2 ^ i * 2 ^ i % 2 ^ n ≡ p / 2 ^ i * 2 ^ i
+floor-is n i p h = mod-eq-of-lt (lt-of-le-of-lt (div-mul-le-self p (2 ^ i)) h)
+
+-- `(1 << b) - (1 << a)`
+pub mask-is : (a b : ℕ) → a ≤ b → b ≤ 16 → 1 * 2 ^ b % 2 ^ 32 - 1 * 2 ^ a % 2 ^ 32 ≡ wordOf (within a b)
+mask-is a b h l =
+    rw (shl-one 32 a (omega arith), shl-one 32 b (omega arith))
+    (is-pack 16 (2 ^ b - 2 ^ a) (within a b) (omega (arith, pow-pos a, pow-mono l)) (λ i u. mask-bit a b i))
+
+-- ---- bits set and cleared
+
+or-cond : (x y : Bool) → (x || y) ≡ cond y true x
+or-cond true true = refl
+or-cond true false = refl
+or-cond false true = refl
+or-cond false false = refl
+
+but-cond : (x y : Bool) → (x && not y) ≡ cond y false x
+but-cond true true = refl
+but-cond true false = refl
+but-cond false true = refl
+but-cond false false = refl
+
+-- `w | v` and `w & !v`, where v has the bits f
+module _ (w v : ℕ) (f : ℕ → Bool) (hw : w < 2 ^ 16) (hv : v < 2 ^ 16) (e : (i : ℕ) → i < 16 → bit v i ≡ f i) where
+  pub or-word : bitOr w v ≡ wordOf (λ i. cond (f i) true (bit w i))
+  or-word =
+      is-pack 16 (bitOr w v) (λ i. cond (f i) true (bit w i)) (or-lt 16 w v hw hv)
+      (λ i l. or-bit w v i ∙ ap (λ (b : Bool). bit w i || b) (e i l) ∙ or-cond (bit w i) (f i))
+
+  pub but-word : bitAnd w ((2 ^ 16 - 1) - v) ≡ wordOf (λ i. cond (f i) false (bit w i))
+  but-word =
+      is-pack 16 (bitAnd w ((2 ^ 16 - 1) - v)) (λ i. cond (f i) false (bit w i)) (and-lt 16 w ((2 ^ 16 - 1) - v) hw (omega arith))
+      (λ i l. and-bit w ((2 ^ 16 - 1) - v) i ∙ ap (λ (b : Bool). bit w i && b) (not-bit 16 v i hv l ∙ ap not (e i l)) ∙ but-cond (bit w i) (f i))
+
+-- one bit set, and cleared
+module _ (w i : ℕ) (h : w < 2 ^ 16) (l : i < 16) where
+  pub set-is : bitOr w (2 ^ i) ≡ wordOf (λ j. cond (eqb j i) true (bit w j))
+  set-is = or-word w (2 ^ i) (λ j. eqb j i) h (pow-lt l) (λ j u. pow-bit i j)
+
+  pub clear-is : bitAnd w ((2 ^ 16 - 1) - 2 ^ i) ≡ wordOf (λ j. cond (eqb j i) false (bit w j))
+  clear-is = but-word w (2 ^ i) (λ j. eqb j i) h (pow-lt l) (λ j u. pow-bit i j)
+
+-- a mask's bits set, and cleared
+module _ (w : ℕ) (f : ℕ → Bool) (h : w < 2 ^ 16) where
+  pub insert-is : bitOr w (wordOf f) ≡ wordOf (λ i. cond (f i) true (bit w i))
+  insert-is = or-word w (wordOf f) f h (pack-lt 16 f) (bit-pack 16 f)
+
+  pub remove-is : bitAnd w ((2 ^ 16 - 1) - wordOf f) ≡ wordOf (λ i. cond (f i) false (bit w i))
+  remove-is = but-word w (wordOf f) f h (pack-lt 16 f) (bit-pack 16 f)
+
+-- ---- a count of zeros
+
+zeros-step : (b : Bool) (t k r : ℕ) → r ≡ suc k + t → cond b k r ≡ k + under (digit b) t
+zeros-step true t k r e = sym (add-zero k)
+zeros-step false t k r e = e ∙ rw (suc-add, add-suc)
+
+-- the first set bit from k on is past the zeros there
+pub first-zeros : (m w k : ℕ) → firstFrom (bit w) k m ≡ k + trailingZeros m (w / 2 ^ k)
+unfolding firstFrom trailingZeros
+first-zeros zero w k = sym (add-zero k)
+first-zeros (suc m) w k =
+    rw (digit-at, shr-shr w k 1, add-one) (zeros-step (bit w k) (trailingZeros m (w / 2 ^ suc k)) k (firstFrom (bit w) (suc k) m) (first-zeros m w (suc k)))
+
+-- the lowest set bit is past all of them
+pub lowest-is : (w : ℕ) → firstFrom (bit w) 0 16 ≡ trailingZeros 16 w
+lowest-is w = rw (div-one, zero-add) at (first-zeros 16 w 0)

@@ -1,0 +1,190 @@
+// BitAllocCascade16: a map of level k over its lent words, its own word first and then its 16 children.
+// Each function takes the words of just that map and hands a child's part of them on.
+ghost use mathlib.Core.Path.{_≡_};
+ghost use mathlib.Core.Bool.{cond, not};
+ghost use Prim.Native.Nat.{suc, _+_, _-_, _*_, _≤_, _<_};
+ghost use lib.Dec.{ltb};
+ghost use lib.ListN.{length};
+ghost use Rattle.bitmap.specs.declared.cascade.Change.the-variants.{Insert, Remove};
+ghost use Rattle.bitmap.specs.Search.{firstFrom};
+ghost use Rattle.bitmap.specs.Tree.{words, cap, leaf?, free?, true?};
+ghost use Rattle.bitmap.specs.Change.{change, low, high};
+ghost use Rattle.bitmap.specs.Take.{lowest};
+ghost use Rattle.bitmap.specs.Run.{nextIn};
+use crate::sizes;
+use crate::word;
+
+// What for_range does to each part of the range: the Rust hands it a closure.
+pub enum Change {
+    Insert,
+    Remove,
+}
+
+// Takes the position that the lowest set bits lead to; past the map, and nothing changed, where a word on the way is 0.
+pub fn alloc(k: usize, s: &mut [u16]) -> usize
+    requires { ⌜ (k ≤ 6) × (length (now s) ≡ words k) ⌝ }
+    ensures { λ r. ⌜ r ≡ lowest k (now (s .entry)) ⌝ }
+    ensures { λ r. ⌜ now (s .exit) ≡ cond (ltb r (cap k)) (change Remove k (now (s .entry)) r (r + 1)) (now (s .entry)) ⌝ }
+{
+    let w = s[0];
+    let i = word::lowest(w);
+    if 16 <= i {
+        return sizes::cap_of(k);
+    }
+    if k == 0 {
+        s[0] = word::with_bit(w, i, false);
+        return i;
+    }
+    let size = sizes::child_words(s.len());
+    let a = 1 + i * size;
+    let e = a + size;
+    let q = alloc(k - 1, &mut s[a..e]);
+    if sizes::cap_of(k - 1) <= q {
+        return sizes::cap_of(k);
+    }
+    s[0] = word::with_bit(w, i, s[a] != 0);
+    sizes::start_of(k - 1, i) + q
+}
+
+// Frees the position key, and answers whether it was taken; where it was free nothing changes.
+pub fn dealloc(k: usize, s: &mut [u16], key: usize) -> bool
+    requires { ⌜ (k ≤ 6) × (length (now s) ≡ words k) × (key < cap k) ⌝ }
+    ensures { λ r. ⌜ r ≡ not (leaf? k (now (s .entry)) key) ⌝ }
+    ensures { λ r. ⌜ now (s .exit) ≡ cond r (change Insert k (now (s .entry)) key (key + 1)) (now (s .entry)) ⌝ }
+{
+    let w = s[0];
+    if k == 0 {
+        if word::test(w, key) {
+            return false;
+        }
+        s[0] = word::with_bit(w, key, true);
+        return true;
+    }
+    let i = sizes::child_of(k - 1, key);
+    let size = sizes::child_words(s.len());
+    let a = 1 + i * size;
+    let e = a + size;
+    if dealloc(k - 1, &mut s[a..e], sizes::rest_of(k - 1, key)) {
+        s[0] = word::with_bit(w, i, true);
+        return true;
+    }
+    false
+}
+
+// Where the range that starts at a starts in child i of level j.
+pub fn low_of(j: usize, a: usize, i: usize) -> usize
+    requires { ⌜ (j ≤ 5) × (i < 16) ⌝ }
+    ensures { λ r. ⌜ r ≡ low (cap j) a i ⌝ }
+{
+    let start = sizes::start_of(j, i);
+    if start < a { a - start } else { 0 }
+}
+
+// Where the range that ends at b ends in child i of level j.
+pub fn high_of(j: usize, b: usize, i: usize) -> usize
+    requires { ⌜ (j ≤ 5) × (i < 16) × (i * cap j ≤ b) ⌝ }
+    ensures { λ r. ⌜ r ≡ high (cap j) b i ⌝ }
+{
+    let rest = b - sizes::start_of(j, i);
+    let c = sizes::cap_of(j);
+    if rest < c { rest } else { c }
+}
+
+// Changes the positions from a up to b, and recomputes the summary bit of each child on the way.
+pub fn for_range(c: Change, k: usize, s: &mut [u16], a: usize, b: usize)
+    requires { ⌜ (k ≤ 6) × (length (now s) ≡ words k) × (a < b) × (b ≤ cap k) ⌝ }
+    ensures { λ _. ⌜ now (s .exit) ≡ change c k (now (s .entry)) a b ⌝ }
+{
+    if k == 0 {
+        s[0] = word::change(c, s[0], a, b);
+        return;
+    }
+    let j = k - 1;
+    let size = sizes::child_words(s.len());
+    let end = sizes::child_of(j, b - 1) + 1;
+    let mut w = s[0];
+    for i in sizes::child_of(j, a)..end {
+        let from = 1 + i * size;
+        let to = from + size;
+        for_range(c, j, &mut s[from..to], low_of(j, a, i), high_of(j, b, i));
+        w = word::with_bit(w, i, s[from] != 0);
+    }
+    s[0] = w;
+}
+
+// Whether the leaf bit at key is set.
+pub fn test(k: usize, s: &[u16], key: usize) -> bool
+    requires { ⌜ (k ≤ 6) × (length (now s) ≡ words k) × (key < cap k) ⌝ }
+    ensures { λ r. ⌜ r ≡ leaf? k (now (s .entry)) key ⌝ }
+{
+    if k == 0 {
+        let w = s[0];
+        return word::test(w, key);
+    }
+    let i = sizes::child_of(k - 1, key);
+    let size = sizes::child_words(s.len());
+    let a = 1 + i * size;
+    let e = a + size;
+    test(k - 1, &s[a..e], sizes::rest_of(k - 1, key))
+}
+
+// The lowest position from key on that is free and seen; past the map where there is none.
+pub fn next_node(k: usize, s: &[u16], key: usize) -> usize
+    requires { ⌜ (k ≤ 6) × (length (now s) ≡ words k) × (key < cap k) ⌝ }
+    ensures { λ r. ⌜ r ≡ nextIn (free? k (now (s .entry))) (cap k) key ⌝ }
+{
+    if k == 0 {
+        let w = s[0];
+        return word::next(w, key);
+    }
+    next_children(
+        k - 1,
+        s,
+        sizes::child_of(k - 1, key),
+        sizes::rest_of(k - 1, key),
+    )
+}
+
+// The same in the children from i on, each of level j: in child i from key on. A child whose summary bit is 0 is not entered.
+pub fn next_children(j: usize, s: &[u16], i: usize, key: usize) -> usize
+    requires { ⌜ (j ≤ 5) × (length (now s) ≡ words (suc j)) × (i ≤ 16) × (key < cap j) × (i * cap j + key ≤ cap (suc j)) ⌝ }
+    ensures { λ r. ⌜ r ≡ nextIn (free? (suc j) (now (s .entry))) (cap (suc j)) (i * cap j + key) ⌝ }
+{
+    let w = s[0];
+    let at = word::next(w, i);
+    if 16 <= at {
+        return sizes::start_of(j, 16);
+    }
+    let size = sizes::child_words(s.len());
+    let a = 1 + at * size;
+    let e = a + size;
+    let from = if at == i { key } else { 0 };
+    let q = next_node(j, &s[a..e], from);
+    if sizes::cap_of(j) <= q {
+        return next_children(j, s, at + 1, 0);
+    }
+    sizes::start_of(j, at) + q
+}
+
+// Whether each summary bit is set exactly where the child's own word is not 0.
+pub fn check(k: usize, s: &[u16]) -> bool
+    requires { ⌜ (k ≤ 6) × (length (now s) ≡ words k) ⌝ }
+    ensures { λ r. ⌜ r ≡ true? k (now (s .entry)) ⌝ }
+{
+    if k == 0 {
+        return true;
+    }
+    let size = sizes::child_words(s.len());
+    let w = s[0];
+    for i in 0..16 {
+        let a = 1 + i * size;
+        let e = a + size;
+        if word::test(w, i) != (s[a] != 0) {
+            return false;
+        }
+        if !check(k - 1, &s[a..e]) {
+            return false;
+        }
+    }
+    true
+}

@@ -1,0 +1,195 @@
+// Aligned runs: finding one, checking one at a base, and the crate's run give-back. Over a map of level k, as cascade.rt.
+ghost use mathlib.Core.Path.{_≡_};
+ghost use mathlib.Core.Bool.{not};
+ghost use Prim.Native.Nat.{suc, _+_, _-_, _*_, _/_, _^_, min, _≤_, _<_};
+ghost use lib.Dec.{eqb, leb};
+ghost use lib.ListN.{length};
+ghost use Rattle.bitmap.specs.declared.contiguous.Base.the-variants.{Any, At};
+ghost use Rattle.bitmap.specs.Search.{firstFrom};
+ghost use Rattle.bitmap.specs.Tree.{words, cap, free?};
+ghost use Rattle.bitmap.specs.Run.{aligned};
+ghost use Rattle.bitmap.specs.GiveBack.{firstLeaf, giveBack};
+ghost use Rattle.bitmap.specs.Answer.{taken};
+ghost use Rattle.bitmap.specs.Calls.{misfit, runSays};
+use crate::answers::Refusal;
+use crate::answers::Taken;
+use crate::cascade;
+use crate::cascade::Change;
+use crate::sizes;
+use crate::word;
+
+// Where a run has to start: anywhere, or at a base.
+pub enum Base {
+    Any,
+    At(usize),
+}
+
+// The lowest multiple of 2^align_log2 that is base or more.
+pub fn align_up_log2(base: usize, align_log2: usize) -> usize
+    requires { ⌜ («align_log2» < 64) × (base + 2 ^ «align_log2» ≤ 2 ^ 64) ⌝ }
+    ensures { λ r. ⌜ r ≡ (base + (2 ^ «align_log2» - 1)) / 2 ^ «align_log2» * 2 ^ «align_log2» ⌝ }
+{
+    let low = (1 << align_log2) - 1;
+    ((base + low) >> align_log2) << align_log2
+}
+
+// Whether base is a multiple of 2^align_log2.
+pub fn is_aligned_log2(base: usize, align_log2: usize) -> bool
+    requires { ⌜ «align_log2» < 64 ⌝ }
+    ensures { λ r. ⌜ r ≡ aligned «align_log2» base ⌝ }
+{
+    base & ((1 << align_log2) - 1) == 0
+}
+
+// Whether 2^align_log2 is no alignment of a map of cap positions: it is never computed where it does not fit.
+pub fn misfits(cap: usize, align_log2: usize) -> bool
+    ensures { λ r. ⌜ r ≡ misfit cap «align_log2» ⌝ }
+{
+    64 <= align_log2 || cap < (1 << align_log2)
+}
+
+// Where a run ends: base + size, or the largest number where the sum is more, so that a huge size never looks short.
+pub fn run_end(base: usize, size: usize) -> usize
+    ensures { λ r. ⌜ r ≡ min (base + size) (2 ^ 64 - 1) ⌝ }
+{
+    if size <= 18446744073709551615 - base {
+        base + size
+    } else {
+        18446744073709551615
+    }
+}
+
+// The first position from a up to b that is not free and seen; b where there is none.
+pub fn end_of(k: usize, s: &[u16], a: usize, b: usize) -> usize
+    requires { ⌜ (k ≤ 6) × (length (now s) ≡ words k) × (a < b) × (b ≤ cap k) ⌝ }
+    ensures { λ r. ⌜ r ≡ firstFrom (λ p. not (free? k (now (s .entry)) p)) a (b - a) ⌝ }
+{
+    if k == 0 {
+        let w = s[0];
+        let r = word::next(!w, a);
+        return if r < b { r } else { b };
+    }
+    let j = k - 1;
+    let size = sizes::child_words(s.len());
+    let w = s[0];
+    let end = sizes::child_of(j, b - 1) + 1;
+    for i in sizes::child_of(j, a)..end {
+        let low = cascade::low_of(j, a, i);
+        if !word::test(w, i) {
+            return sizes::start_of(j, i) + low;
+        }
+        let high = cascade::high_of(j, b, i);
+        let from = 1 + i * size;
+        let to = from + size;
+        let r = end_of(j, &s[from..to], low, high);
+        if r < high {
+            return sizes::start_of(j, i) + r;
+        }
+    }
+    b
+}
+
+// The lowest aligned run, or the refusal.
+pub fn find_contiguous(k: usize, s: &[u16], size: usize, align_log2: usize) -> Taken
+    requires { ⌜ (k ≤ 6) × (length (now s) ≡ words k) ⌝ }
+    ensures { λ r. ⌜ taken r ≡ runSays Any size «align_log2» k (now (s .entry)) ⌝ }
+{
+    let cap = sizes::cap_of(k);
+    if misfits(cap, align_log2) {
+        return Taken::No(Refusal::Alignment);
+    }
+    if size == 0 { // an empty run would fit everywhere
+        return Taken::No(Refusal::NoSize);
+    }
+    let mut at = 0;
+    while at < cap {
+        let free = cascade::next_node(k, s, at);
+        if cap <= free {
+            return Taken::No(Refusal::NoneFree);
+        }
+        let base = align_up_log2(free, align_log2);
+        if cap - base < size {
+            return Taken::No(Refusal::NoneFree);
+        }
+        let to = base + size;
+        let end = end_of(k, s, base, to);
+        if end == to {
+            return Taken::At(base);
+        }
+        at = end + 1;
+    }
+    Taken::No(Refusal::NoneFree)
+}
+
+// The run at a base, or the refusal.
+pub fn check_contiguous(k: usize, s: &[u16], base: usize, size: usize, align_log2: usize) -> Taken
+    requires { ⌜ (k ≤ 6) × (length (now s) ≡ words k) ⌝ }
+    ensures { λ r. ⌜ taken r ≡ runSays (At base) size «align_log2» k (now (s .entry)) ⌝ }
+{
+    let cap = sizes::cap_of(k);
+    if misfits(cap, align_log2) {
+        return Taken::No(Refusal::Alignment);
+    }
+    if !is_aligned_log2(base, align_log2) {
+        return Taken::No(Refusal::Alignment);
+    }
+    if size == 0 {
+        return Taken::No(Refusal::NoSize);
+    }
+    let to = run_end(base, size);
+    if cap < to {
+        return Taken::No(Refusal::PastEnd);
+    }
+    let end = end_of(k, s, base, to);
+    if end == to {
+        return Taken::At(base);
+    }
+    Taken::No(Refusal::NoneFree)
+}
+
+// The run that a take gets, or the refusal.
+pub fn find_run(k: usize, s: &[u16], base: Base, size: usize, align_log2: usize) -> Taken
+    requires { ⌜ (k ≤ 6) × (length (now s) ≡ words k) ⌝ }
+    ensures { λ r. ⌜ taken r ≡ runSays base size «align_log2» k (now (s .entry)) ⌝ }
+{
+    match base {
+        Base::Any => find_contiguous(k, s, size, align_log2),
+        Base::At(b) => check_contiguous(k, s, b, size, align_log2),
+    }
+}
+
+// The crate's run give-back of the positions from a up to b: whether none of them was free.
+pub fn dealloc_contiguous(k: usize, s: &mut [u16], a: usize, b: usize) -> bool
+    requires { ⌜ (k ≤ 6) × (length (now s) ≡ words k) × (a < b) × (b ≤ cap k) ⌝ }
+    ensures { λ r. ⌜ r ≡ leb b (firstLeaf k (now (s .entry)) a b) ⌝ }
+    ensures { λ _. ⌜ now (s .exit) ≡ giveBack k (now (s .entry)) a b ⌝ }
+{
+    if k == 0 {
+        let w = s[0];
+        if word::next(w, a) < b {
+            return false;
+        }
+        s[0] = word::change(Change::Insert, w, a, b);
+        return true;
+    }
+    let j = k - 1;
+    let size = sizes::child_words(s.len());
+    let end = sizes::child_of(j, b - 1) + 1;
+    let mut w = s[0];
+    let mut ok = true;
+    for i in sizes::child_of(j, a)..end {
+        let from = 1 + i * size;
+        let to = from + size;
+        if ok {
+            ok = dealloc_contiguous(
+                j,
+                &mut s[from..to],
+                cascade::low_of(j, a, i),
+                cascade::high_of(j, b, i),
+            );
+        }
+        w = word::with_bit(w, i, s[from] != 0);
+    }
+    s[0] = w;
+    ok
+}

@@ -1,0 +1,66 @@
+// BitAlloc16: one word of 16 positions, of which a set bit is a free one.
+ghost use mathlib.Core.Path.{_≡_};
+ghost use mathlib.Core.Bool.{cond};
+ghost use lib.Dec.{eqb};
+ghost use Prim.Native.Nat.{_-_, _≤_, _<_};
+ghost use Rattle.bitmap.specs.Search.{firstFrom};
+ghost use Rattle.bitmap.specs.Bits.{bit, wordOf, within};
+ghost use Rattle.bitmap.specs.Change.{changeWord};
+ghost use Rattle.bitmap.specs.Take.{lowestBit};
+use crate::cascade::Change;
+
+// Whether bit i is set.
+pub fn test(w: u16, i: usize) -> bool
+    requires { ⌜ i < 16 ⌝ }
+    ensures { λ r. ⌜ r ≡ bit w i ⌝ }
+{
+    (w >> i) & 1 == 1
+}
+
+// The word with bit i as given.
+pub fn with_bit(w: u16, i: usize, on: bool) -> u16
+    requires { ⌜ i < 16 ⌝ }
+    ensures { λ r. ⌜ r ≡ wordOf (λ j. cond (eqb j i) on (bit w j)) ⌝ }
+{
+    if on { w | (1 << i) } else { w & !(1 << i) }
+}
+
+// The bits from start up to end.
+pub fn mask(start: usize, end: usize) -> u16
+    requires { ⌜ (start ≤ end) × (end ≤ 16) ⌝ }
+    ensures { λ r. ⌜ r ≡ wordOf (within start end) ⌝ }
+{
+    ((1u32 << end) - (1u32 << start)) as u16
+}
+
+// The word with the bits from start up to end set, or cleared.
+pub fn change(c: Change, w: u16, start: usize, end: usize) -> u16
+    requires { ⌜ (start ≤ end) × (end ≤ 16) ⌝ }
+    ensures { λ r. ⌜ r ≡ changeWord c w start end ⌝ }
+{
+    match c {
+        Change::Insert => w | mask(start, end),
+        Change::Remove => w & !mask(start, end),
+    }
+}
+
+// The first set bit from key on; 16 or more where there is none.
+pub fn next(w: u16, key: usize) -> usize
+    ensures { λ r. ⌜ r ≡ firstFrom (bit w) key (16 - key) ⌝ }
+{
+    let mut i = key;
+    while i < 16 {
+        if test(w, i) {
+            return i;
+        }
+        i += 1;
+    }
+    i
+}
+
+// The lowest set bit; 16 where there is none.
+pub fn lowest(w: u16) -> usize
+    ensures { λ r. ⌜ r ≡ lowestBit w ⌝ }
+{
+    u16::trailing_zeros(w) as usize
+}
