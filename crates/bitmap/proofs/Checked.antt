@@ -27,7 +27,7 @@ true-node s up = rw (← up)
 
 -- ---- as the code asks it of child i, each child having n words: b is the summary bit, and r the answer for the lent part
 
-beq-same : (a b : Bool) → Bool·beq a b ≡ same a b
+pub beq-same : (a b : Bool) → Bool·beq a b ≡ same a b
 beq-same true true = refl
 beq-same true false = refl
 beq-same false true = refl

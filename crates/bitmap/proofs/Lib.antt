@@ -25,6 +25,7 @@ pub mod OneMap
 pub mod FreedRun
 pub mod Refusals
 pub mod Stores
+pub mod Numbered
 pub mod Runs
 pub mod RunCases
 pub mod RunAnswers

@@ -64,12 +64,12 @@ leaf-in k s i q l = rw (digits-div i l, digits-mod i l)
 
 -- ---- a map is true where each bit says whether its child's own word is not 0, and each child is true
 
-same-is : (a b : Bool) → same a b ≡ true → a ≡ b
+pub same-is : (a b : Bool) → same a b ≡ true → a ≡ b
 same-is true b h = sym h
 same-is false true h = absurd (true≢false (sym h))
 same-is false false h = refl
 
-same-self : (b : Bool) → same b b ≡ true
+pub same-self : (b : Bool) → same b b ≡ true
 same-self true = refl
 same-self false = refl
 

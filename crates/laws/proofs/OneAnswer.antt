@@ -1,22 +1,20 @@
 -- One answer: of each public call, two answers and two exits that both meet the generated contract for the same arguments are equal.
 -- Assumes nothing.
 use mathlib.Core.Path.{_≡_, refl, sym, ap, _∙_}
-use mathlib.Core.List.{List, [], _∷_}
+use mathlib.Core.List.{List, []}
 use Prim.Native.Nat.{ℕ}
 use native.Mathlib.Omega.{arith}
-use lib.ListN.{getD}
 use contract.Lifetimes.{Lfts}
 use denote.Triple.Clauses.{Lasts, atExit}
 use borrow.Fn.World.{ArgsD, ResD}
-use Rattle.bitmap.specs.declared.answers.Refusal.{Refusal}
-use Rattle.bitmap.specs.declared.answers.Refusal.the-variants.{WordCount, PastEnd, NoSize, Alignment, NoneFree, AlreadyFree, Untrue, BadImage, TooShort, BadLine}
 use Rattle.bitmap.specs.declared.answers.Taken.{Taken}
 use Rattle.bitmap.specs.declared.answers.Taken.the-variants as T
 use Rattle.bitmap.specs.declared.answers.Changed.{Changed}
 use Rattle.bitmap.specs.declared.answers.Changed.the-variants as C
 use Rattle.bitmap.specs.declared.answers.Told.{Told}
 use Rattle.bitmap.specs.declared.answers.Told.the-variants as Y
-use Rattle.bitmap.specs.Answer.{given, refused, number, taken, changed, told}
+use Rattle.bitmap.specs.Answer.{number, taken, changed, told}
+use Rattle.bitmap.proofs.Numbered.{number-one, apart}
 use Rattle.bitmap.proofs.alloc as alloc
 use Rattle.bitmap.proofs.alloc.Reads as alloc-reads
 use Rattle.bitmap.proofs.alloc_contiguous as alloc-contiguous
@@ -39,29 +37,6 @@ use Rattle.bitmap.proofs.check as check
 use Rattle.bitmap.proofs.check.Reads as check-reads
 
 -- ---- document 01's numbers tell the answers apart
-
--- the refusal of a number
-unfoldable refusalOf : ℕ → Refusal
-refusalOf n = getD (BadLine ∷ WordCount ∷ PastEnd ∷ NoSize ∷ Alignment ∷ NoneFree ∷ AlreadyFree ∷ Untrue ∷ BadImage ∷ TooShort ∷ []) n BadLine
-
-back : (r : Refusal) → refusalOf (number r) ≡ r
-unfolding refusalOf
-back WordCount = refl
-back PastEnd = refl
-back NoSize = refl
-back Alignment = refl
-back NoneFree = refl
-back AlreadyFree = refl
-back Untrue = refl
-back BadImage = refl
-back TooShort = refl
-back BadLine = refl
-
-pub number-one : (r q : Refusal) → refused (number r) ≡ refused (number q) → r ≡ q
-number-one r q e = let n : number r ≡ number q = cc in sym (back r) ∙ ap refusalOf n ∙ back q
-
-apart : (v n : ℕ) → given v ≡ refused n → ⊥
-apart v n e = let z : _≡_ {A = ℕ} 0 1 = cc in omega arith
 
 pub taken-one : (r q : Taken) → taken r ≡ taken q → r ≡ q
 taken-one (T.At p) (T.At p′) e = cc
