@@ -1,0 +1,83 @@
+-- `line_io::run` meets its contract: the bytes printed are bytes of the output. Assumes nothing.
+use mathlib.Core.Path.{sym, ap, _∙_}
+use Prim.Native.Nat.{ℕ, _≤_}
+use lib.ListN.{length, length-replicate}
+use lib.Seq.{length-take-le}
+use Rattle.lines.specs.Session.{says}
+use Rattle.lines.proofs.Whole.{count-le}
+use borrow.Author.Needs.{needs}
+use Rattle.line_io.proofs.run.Statement.{statement}
+use Rattle.line_io.proofs.run.Tie as tie
+
+within : (k : tie.After-count) → k .count .given .0 .0 ≤ length (k .before .before .before .before .lines .last .1 .1 .0)
+within k =
+    let d = k .before .before .before .before in
+    count-le _ _ _ (k .count .given .0 .0) (ap says (sym (k .count .given .1)) ∙ d .lines .ensures .0) (d .lines .ensures .1 .1)
+
+large-buffer-requires : tie.Need-large-buffer-requires
+large-buffer-requires c κs = search needs
+
+slice-aggregate-read-full : tie.Need-slice-aggregate-read-full
+slice-aggregate-read-full c = search needs
+
+read-full-requires : tie.Need-read-full-requires
+read-full-requires c κs = search needs
+
+array-share-prefix-input : tie.Need-array-share-prefix-input
+array-share-prefix-input c = search needs
+
+slice-aggregate-lines : tie.Need-slice-aggregate-lines
+slice-aggregate-lines c = search needs
+
+slice-aggregate-lines-2 : tie.Need-slice-aggregate-lines-2
+slice-aggregate-lines-2 c = search needs
+
+slice-aggregate-lines-3 : tie.Need-slice-aggregate-lines-3
+slice-aggregate-lines-3 c = search needs
+
+lines-requires : tie.Need-lines-requires
+lines-requires c κs = search needs
+
+enum-known-count : tie.Need-enum-known-count
+enum-known-count c = search needs
+
+array-share-prefix-output : tie.Need-array-share-prefix-output
+array-share-prefix-output c = within (c .before)
+
+slice-aggregate-write-all : tie.Need-slice-aggregate-write-all
+slice-aggregate-write-all c = sym (length-take-le _ _ (within (c .before .before)))
+
+write-all-requires : tie.Need-write-all-requires
+write-all-requires c κs = search needs
+
+enum-told : tie.Need-enum-told
+enum-told c = search needs
+
+returns : tie.Need-returns
+returns c =
+    let k = c .before .before .before in
+    let d = k .before .before .before .before in
+    rw (d .lines .kept .1 .1 .0 ∙ length-replicate {A = ℕ} 393216 0) at (within k)
+
+returns-2 : tie.Need-returns-2
+returns-2 c = search needs
+
+pub run-spec : {M : Type 1} → statement M
+run-spec =
+    tie.close
+    (tie.spec
+    large-buffer-requires
+    slice-aggregate-read-full
+    read-full-requires
+    array-share-prefix-input
+    slice-aggregate-lines
+    slice-aggregate-lines-2
+    slice-aggregate-lines-3
+    lines-requires
+    enum-known-count
+    array-share-prefix-output
+    slice-aggregate-write-all
+    write-all-requires
+    enum-told
+    returns
+    returns-2)

@@ -1,0 +1,69 @@
+-- `lines::read::size_of` meets its contract. Assumes nothing.
+use mathlib.Core.Path.{refl}
+use borrow.Author.Needs.{needs}
+use Rattle.lines.specs.Line.{sizeOf}
+use Rattle.lines.proofs.Texts.{pick-yes, pick-no}
+use Rattle.lines.proofs.read.size_of.Statement.{statement}
+use Rattle.lines.proofs.read.size_of.Tie as tie
+
+slice-aggregate-is : tie.Need-slice-aggregate-is
+slice-aggregate-is c = search needs
+
+is-requires : tie.Need-is-requires
+is-requires c κs = search needs
+
+returns : tie.Need-returns
+unfolding sizeOf
+returns c = pick-yes _ (c .before .is .ensures) (c .if1 .taken)
+
+slice-aggregate-is-2 : tie.Need-slice-aggregate-is-2
+slice-aggregate-is-2 c = search needs
+
+is-requires-2 : tie.Need-is-requires-2
+is-requires-2 c κs = search needs
+
+returns-2 : tie.Need-returns-2
+unfolding sizeOf
+returns-2 c = pick-no _ (c .before .before .before .before .is .ensures) (c .before .before .before .if1 .left) (pick-yes _ (c .before .is2 .ensures) (c .if2 .taken))
+
+slice-aggregate-is-3 : tie.Need-slice-aggregate-is-3
+slice-aggregate-is-3 c = search needs
+
+is-requires-3 : tie.Need-is-requires-3
+is-requires-3 c κs = search needs
+
+returns-3 : tie.Need-returns-3
+unfolding sizeOf
+returns-3 c = pick-no _ (c .before .before .before .before .before .before .before .is .ensures) (c .before .before .before .before .before .before .if1 .left) (pick-no _ (c .before .before .before .before .is2 .ensures) (c .before .before .before .if2 .left) (pick-yes _ (c .before .is3 .ensures) (c .if3 .taken)))
+
+slice-aggregate-is-4 : tie.Need-slice-aggregate-is-4
+slice-aggregate-is-4 c = search needs
+
+is-requires-4 : tie.Need-is-requires-4
+is-requires-4 c κs = search needs
+
+returns-4 : tie.Need-returns-4
+unfolding sizeOf
+returns-4 c = pick-no _ (c .before .before .before .before .before .before .before .before .before .before .is .ensures) (c .before .before .before .before .before .before .before .before .before .if1 .left) (pick-no _ (c .before .before .before .before .before .before .before .is2 .ensures) (c .before .before .before .before .before .before .if2 .left) (pick-no _ (c .before .before .before .before .is3 .ensures) (c .before .before .before .if3 .left) (pick-yes _ (c .before .is4 .ensures) (c .if4 .taken))))
+
+returns-5 : tie.Need-returns-5
+unfolding sizeOf
+returns-5 c = pick-no _ (c .before .before .before .before .before .before .before .before .before .before .is .ensures) (c .before .before .before .before .before .before .before .before .before .if1 .left) (pick-no _ (c .before .before .before .before .before .before .before .is2 .ensures) (c .before .before .before .before .before .before .if2 .left) (pick-no _ (c .before .before .before .before .is3 .ensures) (c .before .before .before .if3 .left) (pick-no _ (c .before .is4 .ensures) (c .if4 .left) refl)))
+
+pub size-of-spec : {M : Type 1} → statement M
+size-of-spec =
+    tie.close
+    (tie.spec
+    slice-aggregate-is
+    is-requires
+    returns
+    slice-aggregate-is-2
+    is-requires-2
+    returns-2
+    slice-aggregate-is-3
+    is-requires-3
+    returns-3
+    slice-aggregate-is-4
+    is-requires-4
+    returns-4
+    returns-5)
