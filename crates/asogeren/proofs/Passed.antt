@@ -1,0 +1,14 @@
+-- An exported call passes on what the call below it says. Assumes nothing.
+use mathlib.Core.Path.{_≡_, ap, _∙_}
+use mathlib.Core.List.{List}
+use Prim.Native.Nat.{ℕ}
+use Rattle.bitmap.specs.Answer.{Said}
+use Rattle.asogeren.specs.declared.crossing.Answer.{Answer}
+use Rattle.asogeren.specs.Crossed.{crossed}
+
+pub passed : {r : Answer} {said s : Said} → r ≡ crossed said → said ≡ s → r ≡ crossed s
+passed p q = p ∙ ap crossed q
+
+-- and leaves what that leaves
+pub passed-both : {r : Answer} {said s : Said} {l m : List ℕ} → r ≡ crossed said → (said ≡ s) × (l ≡ m) → (r ≡ crossed s) × (l ≡ m)
+passed-both p q = (passed p (q .0), q .1)

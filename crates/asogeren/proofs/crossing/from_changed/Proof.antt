@@ -1,0 +1,7 @@
+-- `asogeren::crossing::from_changed` meets its contract, case by case. Assumes nothing.
+use borrow.Author.Needs.{needs}
+use Rattle.asogeren.proofs.crossing.from_changed.Statement.{statement}
+use Rattle.asogeren.proofs.crossing.from_changed.Tie as tie
+
+pub from-changed-spec : {M : Type 1} → statement M
+from-changed-spec = tie.close (tie.spec (λ c. search needs) (λ c κs. search needs) (λ c. search needs) (λ c κs. search needs) (λ c. cc) (λ c. cc))

@@ -1,0 +1,7 @@
+-- `asogeren::crossing::from_taken` meets its contract, case by case. Assumes nothing.
+use borrow.Author.Needs.{needs}
+use Rattle.asogeren.proofs.crossing.from_taken.Statement.{statement}
+use Rattle.asogeren.proofs.crossing.from_taken.Tie as tie
+
+pub from-taken-spec : {M : Type 1} → statement M
+from-taken-spec = tie.close (tie.spec (λ c. search needs) (λ c κs. search needs) (λ c. search needs) (λ c κs. search needs) (λ c. cc) (λ c. cc))
