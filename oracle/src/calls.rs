@@ -1,0 +1,99 @@
+//! The calls that the crate has, with their arguments, and the sizes of the maps.
+use std::fmt;
+
+/// The positions of a map of n levels.
+pub fn positions(n: usize) -> u64 {
+    1 << (4 * n)
+}
+
+/// The words of a map of n levels.
+pub fn words(n: usize) -> usize {
+    (0..n).fold(0, |w, _| 1 + 16 * w)
+}
+
+#[derive(Clone, Copy, PartialEq, Eq, Debug, PartialOrd, Ord)]
+pub enum Call {
+    Alloc,
+    Run,
+    RunAt,
+    Next,
+    Dealloc,
+    DeallocRun,
+    Insert,
+    Remove,
+    IsEmpty,
+    Test,
+}
+
+pub use Call::*;
+
+pub const CALLS: [Call; 10] = [Alloc, Run, RunAt, Next, Dealloc, DeallocRun, Insert, Remove, IsEmpty, Test];
+
+impl Call {
+    /// The name in the C library, without its prefix.
+    pub fn name(self) -> &'static str {
+        match self {
+            Alloc => "alloc",
+            Run => "alloc_contiguous",
+            RunAt => "alloc_contiguous_at",
+            Next => "next",
+            Dealloc => "dealloc",
+            DeallocRun => "dealloc_contiguous",
+            Insert => "insert",
+            Remove => "remove",
+            IsEmpty => "is_empty",
+            Test => "test",
+        }
+    }
+
+    /// How many numbers it takes.
+    pub fn arity(self) -> usize {
+        match self {
+            Alloc | IsEmpty => 0,
+            Next | Dealloc | Test => 1,
+            Run | DeallocRun | Insert | Remove => 2,
+            RunAt => 3,
+        }
+    }
+}
+
+/// A call with its numbers, in the order of the C library's parameters; those that it does not take are 0.
+#[derive(Clone, Copy, PartialEq, Eq, Debug)]
+pub struct Op {
+    pub call: Call,
+    pub args: [u64; 3],
+}
+
+pub fn op(call: Call, args: &[u64]) -> Op {
+    assert_eq!(args.len(), call.arity());
+    let mut all = [0; 3];
+    all[..args.len()].copy_from_slice(args);
+    Op { call, args: all }
+}
+
+impl Op {
+    pub fn numbers(&self) -> &[u64] {
+        &self.args[..self.call.arity()]
+    }
+}
+
+impl fmt::Display for Op {
+    fn fmt(&self, f: &mut fmt::Formatter) -> fmt::Result {
+        write!(f, "{}", self.call.name())?;
+        for x in self.numbers() {
+            write!(f, " {}", number(*x))?;
+        }
+        Ok(())
+    }
+}
+
+/// A number as a person would write it: the largest ones by their distance from a power of two.
+pub fn number(x: u64) -> String {
+    if x > u64::MAX - 100_000_000 {
+        format!("2^64-{}", u64::MAX - x + 1)
+    } else if x == 1 << 63 {
+        "2^63".to_string()
+    } else {
+        x.to_string()
+    }
+}
