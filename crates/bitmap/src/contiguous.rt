@@ -1,6 +1,6 @@
 // Aligned runs: finding one, checking one at a base, and the crate's run give-back. Over a map of level k, as cascade.rt.
 ghost use mathlib.Core.Path.{_≡_};
-ghost use mathlib.Core.Bool.{not};
+ghost use mathlib.Core.Bool.{true, not};
 ghost use Prim.Native.Nat.{suc, _+_, _-_, _*_, _/_, _^_, min, _≤_, _<_};
 ghost use lib.Dec.{eqb, leb};
 ghost use lib.ListN.{length};
@@ -89,6 +89,21 @@ pub fn end_of(k: usize, s: &[u16], a: usize, b: usize) -> usize
     b
 }
 
+// The same from base on, beside a position that was found free: where that is base itself, only the rest is looked up.
+pub fn rest_end(k: usize, s: &[u16], free: usize, base: usize, to: usize) -> usize
+    requires { ⌜ (k ≤ 6) × (length (now s) ≡ words k) × (base < to) × (to ≤ cap k) × (free? k (now s) free ≡ true) ⌝ }
+    ensures { λ r. ⌜ r ≡ firstFrom (λ p. not (free? k (now (s .entry)) p)) base (to - base) ⌝ }
+{
+    if free != base {
+        return end_of(k, s, base, to);
+    }
+    let next = base + 1;
+    if next == to {
+        return to;
+    }
+    end_of(k, s, next, to)
+}
+
 // The lowest aligned run, or the refusal.
 pub fn find_contiguous(k: usize, s: &[u16], size: usize, align_log2: usize) -> Taken
     requires { ⌜ (k ≤ 6) × (length (now s) ≡ words k) ⌝ }
@@ -112,7 +127,7 @@ pub fn find_contiguous(k: usize, s: &[u16], size: usize, align_log2: usize) -> T
             return Taken::No(Refusal::NoneFree);
         }
         let to = base + size;
-        let end = end_of(k, s, base, to);
+        let end = rest_end(k, s, free, base, to);
         if end == to {
             return Taken::At(base);
         }

@@ -2,12 +2,13 @@
 -- one still may. The measure is what is left of the positions. Assumes nothing.
 use borrow.Author.Needs.{needs}
 use mathlib.Core.Path.{_≡_, sym, ap, _∙_}
-use mathlib.Core.Bool.{false}
+use mathlib.Core.Bool.{true, false}
 use Prim.Native.Nat.{ℕ, _+_, _-_, _%_, _^_, _≤_, _<_}
 use native.Mathlib.Omega.{arith}
 use lib.Pow.{pow-pos}
 use Rattle.bitmap.specs.Tree as tree
 use Rattle.bitmap.specs.Calls.{misfit}
+use Rattle.bitmap.proofs.Search.{first-is}
 use Rattle.bitmap.proofs.Runs as runs
 use Rattle.bitmap.proofs.RunCases as cases
 use Rattle.bitmap.proofs.contiguous.find_contiguous.Statement.{statement}
@@ -37,6 +38,15 @@ free : (c : tie.After-next-node Inv-loop μ-loop) → let a = entry (c .before) 
     (c .before .before .loop .at ≤ c .next-node .result) × runs.Sought (tree.free? (a .k) (a .s .now)) (tree.cap (a .k)) (a .size) (a .align-log2) (c .next-node .result)
 free c = runs.sought-free (c .before .before .loop .inv) _ (some (c .before)) (c .next-node .ensures)
 
+-- the position found is free
+found : (c : tie.Else3 Inv-loop μ-loop) → let a = entry (c .before .before) .args in tree.free? (a .k) (a .s .now) (c .before .next-node .result) ≡ true
+found c =
+    let a = entry (c .before .before) .args in
+    let at = c .before .before .before .loop .at in
+    let n = tree.cap (a .k) in
+    ap (tree.free? (a .k) (a .s .now)) (c .before .next-node .ensures)
+    ∙ first-is (tree.free? (a .k) (a .s .now)) at (n - at) n (omega arith) .here (omega arith)
+
 base : (c : tie.After-align-up-log2 Inv-loop μ-loop) → let a = entry (c .before .before .before) .args in
     (c .before .before .next-node .result ≤ c .align-up-log2 .result) × runs.Sought (tree.free? (a .k) (a .s .now)) (tree.cap (a .k)) (a .size) (a .align-log2) (c .align-up-log2 .result)
 base c =
@@ -44,8 +54,8 @@ base c =
     runs.sought-multiple (free (c .before .before) .1) _ (runs.cap-multiple (a .k) (a .align-log2) (cases.fits-align _ _ (fits (c .before .before .before)) .1)) (c .align-up-log2 .ensures)
 
 next : (c : tie.Else5 Inv-loop μ-loop) → let a = entry (c .before .before .before .before .before .before) .args in
-    (c .before .before .before .align-up-log2 .result ≤ c .before .end-of .result) × runs.Sought (tree.free? (a .k) (a .s .now)) (tree.cap (a .k)) (a .size) (a .align-log2) (c .before .end-of .result + 1)
-next c = runs.sought-next (base (c .before .before .before) .1) _ (omega (arith, base (c .before .before .before) .1 .upto)) (c .before .end-of .ensures) (c .if5 .left)
+    (c .before .before .before .align-up-log2 .result ≤ c .before .rest-end .result) × runs.Sought (tree.free? (a .k) (a .s .now)) (tree.cap (a .k)) (a .size) (a .align-log2) (c .before .rest-end .result + 1)
+next c = runs.sought-next (base (c .before .before .before) .1) _ (omega (arith, base (c .before .before .before) .1 .upto)) (c .before .rest-end .ensures) (c .if5 .left)
 
 cap-of-requires : tie.Need-cap-of-requires Inv-loop μ-loop
 cap-of-requires c κs = search needs
@@ -92,8 +102,12 @@ returns-4 c =
 add-to : tie.Need-add-to Inv-loop μ-loop
 add-to c = omega (arith, base (c .before) .1 .upto)
 
-end-of-requires : tie.Need-end-of-requires Inv-loop μ-loop
-end-of-requires c κs = omega (arith, base (c .before) .1 .upto, some (c .before .before .before .before))
+rest-end-requires : tie.Need-rest-end-requires Inv-loop μ-loop
+rest-end-requires c κs =
+    let n = c .before .before .before .before in
+    let a = entry n .args in
+    let upto = base (c .before) .1 .upto in
+    (omega arith, n .before .before .before .before .before .before .before .pre .1, omega (arith, some n), omega arith, found (c .before .before))
 
 returns-5 : tie.Need-returns-5 Inv-loop μ-loop
 returns-5 c =
@@ -103,7 +117,7 @@ returns-5 c =
     let multiple = ap (λ (x : ℕ). x % 2 ^ a .align-log2) (m .align-up-log2 .ensures) ∙ runs.up-multiple (2 ^ a .align-log2) (m .before .before .next-node .result) (pow-pos (a .align-log2)) in
     let upto = base m .1 .upto in
     cases.any-found (a .size) (a .align-log2) (a .k) (a .s .now) (fits n) (n .before .before .if2 .left) _
-    (runs.sought-here (base m .1) _ (some n) multiple (omega arith) (c .before .end-of .ensures) (c .if5 .taken)) (omega (arith, some n))
+    (runs.sought-here (base m .1) _ (some n) multiple (omega arith) (c .before .rest-end .ensures) (c .if5 .taken)) (omega (arith, some n))
 
 add-at : tie.Need-add-at Inv-loop μ-loop
 add-at c = omega (arith, next c .1 .upto)
@@ -136,7 +150,7 @@ find-contiguous-spec =
     sub-if4
     returns-4
     add-to
-    end-of-requires
+    rest-end-requires
     returns-5
     add-at
     loop-less
