@@ -5,6 +5,7 @@ mod lines;
 mod make;
 mod model;
 mod oracle;
+mod order;
 mod pair;
 mod paper;
 mod plant;

@@ -1,6 +1,7 @@
 //! The crate's map and ours side by side: each call is made on both, and its answer and every word afterwards are compared.
 use crate::calls::*;
-use crate::oracle::{self, Map, Order, Outcome};
+use crate::oracle::{self, Map, Outcome};
+use crate::order::Order;
 use crate::paper::{self, Class, CLASSES};
 use crate::plant::Plant;
 use crate::sides::{ours, Answer};

@@ -1,7 +1,8 @@
 //! The runs beside the crate: every word of the smallest map, grids around the borders, random lists, long lists, and untrue maps.
 use crate::calls::*;
 use crate::make::{self, Kind, Rng};
-use crate::oracle::{self, Order, Outcome};
+use crate::oracle::{self, Outcome};
+use crate::order::Order;
 use crate::pair::{Maps, Pair, Tally};
 use crate::paper;
 use crate::plant::Plant;
@@ -29,7 +30,7 @@ impl Runs {
     pub fn new(seed: u64, plant: Plant, less: u64) -> Runs {
         let sum_overflows = oracle::map(2).call(&op(DeallocRun, &[1, u64::MAX]));
         assert!(sum_overflows == Outcome::Panic, "the crate was built without overflow checks");
-        let orders: Vec<Order> = std::iter::once(1).chain(1..=5).map(Order::probe).collect();
+        let orders: Vec<Order> = std::iter::once(1).chain(1..=5).map(oracle::order).collect();
         let now = Instant::now();
         Runs {
             seed,

@@ -1,7 +1,7 @@
 //! Makes a failing list small: one call if one is enough, the smallest map, the fewest positions, the smallest numbers.
 use crate::calls::*;
 use crate::make::{from_leaves, to_leaves};
-use crate::oracle::Order;
+use crate::order::Order;
 use crate::pair::{Maps, Pair, Tally};
 use crate::plant::Plant;
 
