@@ -14,7 +14,7 @@ use Rattle.bitmap.specs.Tree.{words, cap, own, child, free?}
 use Rattle.bitmap.specs.Change.{low, high}
 use Rattle.bitmap.proofs.Search.{first-is, first-ext, first-min, first-at}
 use Rattle.bitmap.proofs.Bits.{not-bit}
-use Rattle.bitmap.proofs.Levels.{cap-pos, cap-small, child-words}
+use Rattle.bitmap.proofs.Levels.{cap-pos, cap-small}
 use Rattle.bitmap.proofs.Spans.{first-in}
 use Rattle.bitmap.proofs.Parts.{lent}
 use Rattle.bitmap.proofs.Path.{Entered, entered-part}
@@ -46,12 +46,12 @@ pub record Passed (j size : ℕ) (s : List ℕ) (a b w i : ℕ) : Type 0 where
   pub past : min b (i * cap j) ≤ firstFrom (held (suc j) s) a (b - a)
 
 -- before the first child visited
-pub passed-start : {k a b j size end i₀ : ℕ} (s : List ℕ) → Walk k a b j end i₀ i₀ → length s ≡ words k → size ≡ length s / 16 → Passed j size s a b (own s) i₀
+pub passed-start : {k a b j size end i₀ : ℕ} (s : List ℕ) → Walk k a b j end i₀ i₀ → length s ≡ words k → size ≡ words j → Passed j size s a b (own s) i₀
 passed-start {k} {a} {b} {j} {size} s v len es =
     let full : length s ≡ words (suc j) = len ∙ ap words (sym (v .level)) in
     let t = first-is (held (suc j) s) a (b - a) b (omega arith) in
     record {
-      size-is = es ∙ ap (λ (n : ℕ). n / 16) full ∙ child-words j;
+      size-is = es;
       len = full;
       own-is = refl;
       past = omega (arith, t .from, ap (λ (n : ℕ). n * cap j) (v .first), div-mul-le-self a (cap j));

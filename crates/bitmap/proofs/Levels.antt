@@ -1,7 +1,7 @@
 -- How many words and positions a map of each level has, and its level by its words. Assumes nothing.
 use mathlib.Core.Path.{_≡_, refl, sym, ap, _∙_}
 use mathlib.Core.Logic.{⊎-elim}
-use Prim.Native.Nat.{ℕ, zero, suc, _+_, _*_, _/_, _^_, _≤_, _<_}
+use Prim.Native.Nat.{ℕ, zero, suc, _+_, _*_, _-_, _/_, _^_, _≤_, _<_}
 use native.Mathlib.Nat.{mul-le-mul-right, eq-or-lt-of-le}
 use native.Mathlib.Omega.{arith}
 use lib.Pow.{pow-add, pow-mono}
@@ -22,10 +22,6 @@ words-node k = refl
 pub cap-node : (k : ℕ) → cap (suc k) ≡ 16 * cap k
 unfolding cap
 cap-node k = refl
-
--- a child's words by those of the map
-pub child-words : (k : ℕ) → words (suc k) / 16 ≡ words k
-child-words k = omega (arith, words-node k)
 
 -- a leaf word has 16 positions
 pub leaf-cap : {k : ℕ} → k ≡ 0 → cap k ≡ 16
@@ -67,6 +63,18 @@ cap-small k h =
 -- and 17895697 words
 pub words-small : (k : ℕ) → k ≤ 6 → words k ≤ 17895697
 words-small k h = omega (arith, words-cap k, cap-small k h)
+
+-- a smaller map's words are the largest one's, four bits less for each level between
+pub words-shift : (k : ℕ) → k ≤ 6 → 17895697 / 2 ^ (24 - 4 * k) ≡ words k
+unfolding words
+words-shift zero h = refl
+words-shift (suc zero) h = refl
+words-shift (suc (suc zero)) h = refl
+words-shift (suc (suc (suc zero))) h = refl
+words-shift (suc (suc (suc (suc zero)))) h = refl
+words-shift (suc (suc (suc (suc (suc zero))))) h = refl
+words-shift (suc (suc (suc (suc (suc (suc zero)))))) h = refl
+words-shift (suc (suc (suc (suc (suc (suc (suc k))))))) h = absurd (omega arith)
 
 -- a child starts in the map
 pub start-small : (j i : ℕ) → j ≤ 5 → i ≤ 16 → i * cap j ≤ 268435456

@@ -27,9 +27,8 @@ pub record Entered (j : ℕ) (s : List ℕ) (i n : ℕ) : Type 0 where
   pub ends : 1 + i * n + n ≤ length s
   pub small : length s ≤ 17895697
 
-pub enter : {k j : ℕ} {s : List ℕ} {i n : ℕ} → suc j ≡ k → k ≤ 6 → length s ≡ words k → n ≡ length s / 16 → i < 16 → Entered j s i n
-enter {k} {j} {s} {i} {n} up le ls en at =
-    let size : n ≡ words j = omega (arith, words-node j, ap words up) in
+pub enter : {k j : ℕ} {s : List ℕ} {i n : ℕ} → suc j ≡ k → k ≤ 6 → length s ≡ words k → n ≡ words j → i < 16 → Entered j s i n
+enter {k} {j} {s} {i} {n} up le ls size at =
     record {
       size = size;
       len = rw up ls;

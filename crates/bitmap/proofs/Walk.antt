@@ -42,12 +42,12 @@ walk-start {a = a} {b} {j} level levels some ends f l = record {
 
 -- the same, with the map's words s, n of them to a child, and what each child is to become
 pub walk-turns : {k a b j i₀ m n : ℕ} {s : List ℕ} → suc j ≡ k → k ≤ 6 → length s ≡ words k → a < b → b ≤ cap k → own s < 2 ^ 16
-    → n ≡ length s / 16 → m ≡ (b - 1) / cap j → i₀ ≡ a / cap j
+    → n ≡ words j → m ≡ (b - 1) / cap j → i₀ ≡ a / cap j
     → (kids : ℕ → List ℕ) → (length s ≡ words (suc j) → (i : ℕ) → i < 16 → length (kids i) ≡ words j)
     → Walk k a b j (m + 1) i₀ i₀ × Upto j n s kids i₀ i₀ s (own s)
 walk-turns {j = j} {i₀} {n = n} {s} level levels len some ends fits size l f kids sized =
     let len′ : length s ≡ words (suc j) = len ∙ ap words (sym level) in
-    (walk-start level levels some ends f l, start j n s kids i₀ (omega (arith, words-node j)) len′ fits (sized len′))
+    (walk-start level levels some ends f l, start j n s kids i₀ size len′ fits (sized len′))
 
 -- after the last turn the children passed are those that have some of the positions
 pub walk-finish : {k a b j end i₀ i n w : ℕ} {s₀ s : List ℕ} {kids : ℕ → List ℕ} → Walk k a b j end i₀ i → Upto j n s₀ kids i₀ i s w → end ≤ i

@@ -35,7 +35,7 @@ pub fn alloc(k: usize, s: &mut [u16]) -> usize
         s[0] = word::with_bit(w, i, false);
         return i;
     }
-    let size = sizes::child_words(s.len());
+    let size = sizes::words_of(k - 1);
     let a = 1 + i * size;
     let e = a + size;
     let q = alloc(k - 1, &mut s[a..e]);
@@ -61,7 +61,7 @@ pub fn dealloc(k: usize, s: &mut [u16], key: usize) -> bool
         return true;
     }
     let i = sizes::child_of(k - 1, key);
-    let size = sizes::child_words(s.len());
+    let size = sizes::words_of(k - 1);
     let a = 1 + i * size;
     let e = a + size;
     if dealloc(k - 1, &mut s[a..e], sizes::rest_of(k - 1, key)) {
@@ -100,7 +100,7 @@ pub fn for_range(c: Change, k: usize, s: &mut [u16], a: usize, b: usize)
         return;
     }
     let j = k - 1;
-    let size = sizes::child_words(s.len());
+    let size = sizes::words_of(j);
     let end = sizes::child_of(j, b - 1) + 1;
     let mut w = s[0];
     for i in sizes::child_of(j, a)..end {
@@ -122,7 +122,7 @@ pub fn test(k: usize, s: &[u16], key: usize) -> bool
         return word::test(w, key);
     }
     let i = sizes::child_of(k - 1, key);
-    let size = sizes::child_words(s.len());
+    let size = sizes::words_of(k - 1);
     let a = 1 + i * size;
     let e = a + size;
     test(k - 1, &s[a..e], sizes::rest_of(k - 1, key))
@@ -155,7 +155,7 @@ pub fn next_children(j: usize, s: &[u16], i: usize, key: usize) -> usize
     if 16 <= at {
         return sizes::start_of(j, 16);
     }
-    let size = sizes::child_words(s.len());
+    let size = sizes::words_of(j);
     let a = 1 + at * size;
     let e = a + size;
     let from = if at == i { key } else { 0 };
@@ -174,7 +174,7 @@ pub fn check(k: usize, s: &[u16]) -> bool
     if k == 0 {
         return true;
     }
-    let size = sizes::child_words(s.len());
+    let size = sizes::words_of(k - 1);
     let w = s[0];
     for i in 0..16 {
         let a = 1 + i * size;

@@ -70,7 +70,7 @@ pub fn end_of(k: usize, s: &[u16], a: usize, b: usize) -> usize
         return if r < b { r } else { b };
     }
     let j = k - 1;
-    let size = sizes::child_words(s.len());
+    let size = sizes::words_of(j);
     let w = s[0];
     let end = sizes::child_of(j, b - 1) + 1;
     for i in sizes::child_of(j, a)..end {
@@ -188,7 +188,7 @@ pub fn dealloc_contiguous(k: usize, s: &mut [u16], a: usize, b: usize) -> bool
         return true;
     }
     let j = k - 1;
-    let size = sizes::child_words(s.len());
+    let size = sizes::words_of(j);
     let end = sizes::child_of(j, b - 1) + 1;
     let mut w = s[0];
     let mut ok = true;

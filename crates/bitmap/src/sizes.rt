@@ -94,11 +94,12 @@ pub fn cap_of(k: usize) -> usize
     }
 }
 
-// How many words each child has in a map of n words.
-pub fn child_words(n: usize) -> usize
-    ensures { λ r. ⌜ r ≡ n / 16 ⌝ }
+// How many words a map of level k has: the largest map's, shifted down by the levels between.
+pub fn words_of(k: usize) -> usize
+    requires { ⌜ k ≤ 6 ⌝ }
+    ensures { λ r. ⌜ r ≡ words k ⌝ }
 {
-    n >> 4
+    BitAlloc256M::WORDS >> (24 - 4 * k)
 }
 
 // Which child of level j the position p is in.

@@ -20,7 +20,7 @@ use Rattle.bitmap.proofs.cascade.alloc.Reads as reads
 use Rattle.bitmap.proofs.cascade.alloc.Kinds as kinds
 use Rattle.bitmap.proofs.cascade.+alloc.Lts-alloc as lts
 use Rattle.bitmap.proofs.sizes.cap_of.Reads as cap-of
-use Rattle.bitmap.proofs.sizes.child_words.Reads as child-words
+use Rattle.bitmap.proofs.sizes.words_of.Reads as words-of
 use Rattle.bitmap.proofs.sizes.start_of.Reads as start-of
 use Rattle.bitmap.proofs.word.lowest.Reads as word-lowest
 use Rattle.bitmap.proofs.word.with_bit.Reads as with-bit
@@ -38,11 +38,11 @@ module _ (t : ℕ) where
   below = and 1 kinds.ps (falls 1 kinds.ps _<_ μ t) reads.Pre
 
   abbrev by : lts.Claims
-  by = (word-lowest.Asked, word-lowest.Learnt, cap-of.Asked, cap-of.Learnt, with-bit.Asked, with-bit.Learnt, child-words.Asked, child-words.Learnt, below, reads.Post, start-of.Asked, start-of.Learnt)
+  by = (word-lowest.Asked, word-lowest.Learnt, cap-of.Asked, cap-of.Learnt, with-bit.Asked, with-bit.Learnt, words-of.Asked, words-of.Learnt, below, reads.Post, start-of.Asked, start-of.Learnt)
 
   -- the child is entered
   abbrev Sized : Type 0
-  Sized = lts.After-child-words by at reads.Post
+  Sized = lts.After-words-of by at reads.Post
 
   abbrev looked : Sized → lts.After-lowest by at reads.Post
   looked c = c .before .before .before
@@ -53,8 +53,8 @@ module _ (t : ℕ) where
   up : (c : Sized) → suc (start c .args .k - 1) ≡ start c .args .k
   up c = level-below (c .before .if2 .left)
 
-  way : (c : Sized) → Entered (start c .args .k - 1) (start c .args .s .now) (looked c .lowest .result) (c .child-words .result)
-  way c = enter (up c) (start c .pre .1 .0) (start c .pre .1 .1) (c .child-words .ensures) (c .before .before .if1 .left)
+  way : (c : Sized) → Entered (start c .args .k - 1) (start c .args .s .now) (looked c .lowest .result) (c .words-of .result)
+  way c = enter (up c) (start c .pre .1 .0) (start c .pre .1 .1) (c .words-of .ensures) (c .before .before .if1 .left)
 
   -- it has answered, and the child's positions are known
   abbrev Given : Type 0
@@ -104,8 +104,11 @@ module _ (t : ℕ) where
         words-found _ _ (omega (arith, leaf-cap leaf, c .before .before .if1 .left)) (leaf-one Remove _ _ leaf (x .pre .1 .1) (c .with-bit .ensures)),
       )
 
-  child-words-requires : lts.Need-child-words-requires by at reads.Post
-  child-words-requires c κs = search needs
+  sub-words-of : lts.Need-sub-words-of by at reads.Post
+  sub-words-of c = search needs
+
+  words-of-requires : lts.Need-words-of-requires by at reads.Post
+  words-of-requires c κs = search needs
 
   mul-a : lts.Need-mul-a by at reads.Post
   mul-a c = omega (arith, way c)
@@ -203,7 +206,8 @@ pub +alloc-spec : {M : Type 1} → statement M
     (slice-write-s t)
     (same-length t)
     (returns-2 t)
-    (child-words-requires t)
+    (sub-words-of t)
+    (words-of-requires t)
     (mul-a t)
     (add-a t)
     (add-e t)

@@ -15,7 +15,7 @@ use Rattle.bitmap.proofs.Checked.{right, true-leaf, true-node, wrong-bi
 use Rattle.bitmap.proofs.cascade.check.Reads as reads
 use Rattle.bitmap.proofs.cascade.check.Kinds as kinds
 use Rattle.bitmap.proofs.cascade.+check.Lts-check as lts
-use Rattle.bitmap.proofs.sizes.child_words.Reads as child-words
+use Rattle.bitmap.proofs.sizes.words_of.Reads as words-of
 use Rattle.bitmap.proofs.word.test.Reads as word-test
 use Rattle.bitmap.proofs.cascade.+check.{statement}
 use Rattle.bitmap.proofs.cascade.+check.Tie.{close}
@@ -37,27 +37,30 @@ module _ (t : ℕ) where
   below = and 1 kinds.ps (falls 1 kinds.ps _<_ μ t) reads.Pre
 
   abbrev by : lts.Claims
-  by = (child-words.Asked, child-words.Learnt, word-test.Asked, word-test.Learnt, below, reads.Post)
+  by = (words-of.Asked, words-of.Learnt, word-test.Asked, word-test.Learnt, below, reads.Post)
 
   -- a child is entered
   abbrev In-turn : Type 0
   In-turn = lts.In-loop by at reads.Post Inv-loop μ-loop
 
-  abbrev counted : In-turn → lts.After-child-words by at reads.Post Inv-loop μ-loop
+  abbrev counted : In-turn → lts.After-words-of by at reads.Post Inv-loop μ-loop
   counted c = c .before .before .before
 
   abbrev start : In-turn → lts.Start by at reads.Post Inv-loop μ-loop
   start c = counted c .before .before .before
 
-  way : (c : In-turn) → Entered (start c .args .k - 1) (start c .args .s .now) (c .before .loop .i) (counted c .child-words .result)
+  way : (c : In-turn) → Entered (start c .args .k - 1) (start c .args .s .now) (c .before .loop .i) (counted c .words-of .result)
   way c =
-      enter (level-below (counted c .before .if1 .left)) (start c .pre .1 .0) (start c .pre .1 .1) (counted c .child-words .ensures) (c .loop-test .taken)
+      enter (level-below (counted c .before .if1 .left)) (start c .pre .1 .0) (start c .pre .1 .1) (counted c .words-of .ensures) (c .loop-test .taken)
 
   returns : lts.Need-returns by at reads.Post Inv-loop μ-loop
   returns c = sym (true-leaf _ (c .if1 .taken))
 
-  child-words-requires : lts.Need-child-words-requires by at reads.Post Inv-loop μ-loop
-  child-words-requires c κs = search needs
+  sub-words-of : lts.Need-sub-words-of by at reads.Post Inv-loop μ-loop
+  sub-words-of c = search needs
+
+  words-of-requires : lts.Need-words-of-requires by at reads.Post Inv-loop μ-loop
+  words-of-requires c κs = search needs
 
   shared-slice-read-w : lts.Need-shared-slice-read-w by at reads.Post Inv-loop μ-loop
   shared-slice-read-w c = omega (arith, words-pos (c .before .before .before .before .args .k))
@@ -129,7 +132,8 @@ module _ (t : ℕ) where
 pub +check-spec : {M : Type 1} → statement M
 +check-spec = close μ λ t. lts.spec (by t) (at t) reads.Post Inv-loop μ-loop
     (returns t)
-    (child-words-requires t)
+    (sub-words-of t)
+    (words-of-requires t)
     (shared-slice-read-w t)
     (loop-holds t)
     (mul-a t)

@@ -19,7 +19,7 @@ use Rattle.bitmap.proofs.cascade.dealloc.Reads as reads
 use Rattle.bitmap.proofs.cascade.dealloc.Kinds as kinds
 use Rattle.bitmap.proofs.cascade.+dealloc.Lts-dealloc as lts
 use Rattle.bitmap.proofs.sizes.child_of.Reads as child-of
-use Rattle.bitmap.proofs.sizes.child_words.Reads as child-words
+use Rattle.bitmap.proofs.sizes.words_of.Reads as words-of
 use Rattle.bitmap.proofs.sizes.rest_of.Reads as rest-of
 use Rattle.bitmap.proofs.word.test.Reads as word-test
 use Rattle.bitmap.proofs.word.with_bit.Reads as with-bit
@@ -37,10 +37,10 @@ module _ (t : ℕ) where
   below = and 1 kinds.ps (falls 1 kinds.ps _<_ μ t) reads.Pre
 
   abbrev by : lts.Claims
-  by = (word-test.Asked, word-test.Learnt, with-bit.Asked, with-bit.Learnt, child-of.Asked, child-of.Learnt, child-words.Asked, child-words.Learnt, rest-of.Asked, rest-of.Learnt, below, reads.Post)
+  by = (word-test.Asked, word-test.Learnt, with-bit.Asked, with-bit.Learnt, child-of.Asked, child-of.Learnt, words-of.Asked, words-of.Learnt, rest-of.Asked, rest-of.Learnt, below, reads.Post)
 
   abbrev Sized : Type 0
-  Sized = lts.After-child-words by at reads.Post
+  Sized = lts.After-words-of by at reads.Post
 
   abbrev start : Sized → lts.Start by at reads.Post
   start c = c .before .before .before .before .before
@@ -48,10 +48,10 @@ module _ (t : ℕ) where
   up : (c : Sized) → suc (start c .args .k - 1) ≡ start c .args .k
   up c = level-below (c .before .before .if1 .left)
 
-  way : (c : Sized) → Entered (start c .args .k - 1) (start c .args .s .now) (c .before .child-of .result) (c .child-words .result)
+  way : (c : Sized) → Entered (start c .args .k - 1) (start c .args .s .now) (c .before .child-of .result) (c .words-of .result)
   way c =
       let pre = start c .pre .1 in
-      enter (up c) (pre .0) (pre .1) (c .child-words .ensures) (rw (c .before .child-of .ensures) (position-child (start c .args .key) (up c) (pre .2)))
+      enter (up c) (pre .0) (pre .1) (c .words-of .ensures) (rw (c .before .child-of .ensures) (position-child (start c .args .key) (up c) (pre .2)))
 
   -- the call for the child answers for the map
   abbrev Given : Type 0
@@ -102,8 +102,11 @@ module _ (t : ℕ) where
   child-of-requires : lts.Need-child-of-requires by at reads.Post
   child-of-requires c κs = search needs
 
-  child-words-requires : lts.Need-child-words-requires by at reads.Post
-  child-words-requires c κs = search needs
+  sub-words-of : lts.Need-sub-words-of by at reads.Post
+  sub-words-of c = search needs
+
+  words-of-requires : lts.Need-words-of-requires by at reads.Post
+  words-of-requires c κs = search needs
 
   mul-a : lts.Need-mul-a by at reads.Post
   mul-a c = omega (arith, way c)
@@ -177,7 +180,8 @@ pub +dealloc-spec : {M : Type 1} → statement M
     (returns-2 t)
     (sub-child-of t)
     (child-of-requires t)
-    (child-words-requires t)
+    (sub-words-of t)
+    (words-of-requires t)
     (mul-a t)
     (add-a t)
     (add-e t)

@@ -21,7 +21,7 @@ use Rattle.bitmap.proofs.cascade.+for_range.Lts-for_range as lts
 use Rattle.bitmap.proofs.cascade.high_of.Reads as high-of
 use Rattle.bitmap.proofs.cascade.low_of.Reads as low-of
 use Rattle.bitmap.proofs.sizes.child_of.Reads as child-of
-use Rattle.bitmap.proofs.sizes.child_words.Reads as child-words-of
+use Rattle.bitmap.proofs.sizes.words_of.Reads as words-of
 use Rattle.bitmap.proofs.word.change.Reads as change-word
 use Rattle.bitmap.proofs.word.with_bit.Reads as with-bit
 use Rattle.bitmap.proofs.cascade.+for_range.{statement}
@@ -37,7 +37,7 @@ abbrev asked : ℕ → In 1 kinds.ps
 asked t = and 1 kinds.ps (falls 1 kinds.ps _<_ level t) reads.Pre
 
 abbrev claims : ℕ → lts.Claims
-claims t = (change-word.Asked, change-word.Learnt, child-words-of.Asked, child-words-of.Learnt, child-of.Asked, child-of.Learnt, low-of.Asked, low-of.Learnt, high-of.Asked, high-of.Learnt, asked t, reads.Post, with-bit.Asked, with-bit.Learnt)
+claims t = (change-word.Asked, change-word.Learnt, words-of.Asked, words-of.Learnt, child-of.Asked, child-of.Learnt, low-of.Asked, low-of.Learnt, high-of.Asked, high-of.Learnt, asked t, reads.Post, with-bit.Asked, with-bit.Learnt)
 
 abbrev Inv : lts.InvT-loop
 Inv c k s₀ a b j size end w₀ i₀ s w i = Walk k a b j end i₀ i × Upto j size s₀ (changedKids c j s₀ a b) i₀ i s w
@@ -54,7 +54,7 @@ module _ (t : ℕ) where
   entry c = c .before .before .before .before .before .before .before .before
 
   -- the part of the child that the loop is at
-  part : (c : Turning) → Entered (entry c .args .k - 1) (c .before .loop .s) (c .before .loop .i) (c .before .before .before .before .before .child-words .result)
+  part : (c : Turning) → Entered (entry c .args .k - 1) (c .before .loop .s) (c .before .loop .i) (c .before .before .before .before .before .words-of .result)
   part c = let h = c .before .loop .inv in walk-enter (h .0) (c .loop-test .taken) (h .1 .size) (kept (h .1))
 
 pub +for-range-spec : {M : Type 1} → statement M
@@ -71,7 +71,7 @@ pub +for-range-spec : {M : Type 1} → statement M
     (λ c. let x = c .before .before .before .before in change-word (x .args .c) (x .args .s .now) (x .args .a) (x .args .b) _ (c .before .before .if1 .taken) (x .pre .1 .1) (c .change .ensures))
     -- sub-j
     (λ c. search needs)
-    -- child-words-requires
+    -- words-of-requires
     (λ c κs. search needs)
     -- sub-child-of
     (λ c. search needs)
@@ -86,7 +86,7 @@ pub +for-range-spec : {M : Type 1} → statement M
     -- loop-holds
     (λ c. let x = c .before .before .before .before .before .before in
     walk-turns (level-below (c .before .before .before .before .if1 .left)) (x .pre .1 .0) (x .pre .1 .1) (x .pre .1 .2) (x .pre .1 .3) (c .before .before .before .before .before .slice-known .given 0 .fits)
-    (c .before .before .before .child-words .ensures) (c .before .before .child-of .ensures) (c .child-of2 .ensures)
+    (c .before .before .before .words-of .ensures) (c .before .before .child-of .ensures) (c .child-of2 .ensures)
     _ (sized-kids (x .args .c) (x .args .k - 1) (x .args .s .now) (x .args .a) (x .args .b)))
     -- mul-from
     (λ c. omega (arith, part t c))

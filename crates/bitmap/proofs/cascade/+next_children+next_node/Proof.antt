@@ -24,7 +24,7 @@ use Rattle.bitmap.proofs.cascade.next_node.Kinds as node-kinds
 use Rattle.bitmap.proofs.cascade.+next_children+next_node.Lts-next_node as node-lts
 use Rattle.bitmap.proofs.sizes.cap_of.Reads as cap-of
 use Rattle.bitmap.proofs.sizes.child_of.Reads as child-of
-use Rattle.bitmap.proofs.sizes.child_words.Reads as child-words
+use Rattle.bitmap.proofs.sizes.words_of.Reads as words-of
 use Rattle.bitmap.proofs.sizes.rest_of.Reads as rest-of
 use Rattle.bitmap.proofs.sizes.start_of.Reads as start-of
 use Rattle.bitmap.proofs.word.next.Reads as next
@@ -53,7 +53,7 @@ module _ (t : ℕ) where
   -- what each of the two calls
   abbrev by-children : children-lts.Claims
   by-children =
-      (next.Asked, next.Learnt, start-of.Asked, start-of.Learnt, child-words.Asked, child-words.Learnt, node-asked, node.Post, cap-of.Asked, cap-of.Learnt, children-asked, children.Post)
+      (next.Asked, next.Learnt, start-of.Asked, start-of.Learnt, words-of.Asked, words-of.Learnt, node-asked, node.Post, cap-of.Asked, cap-of.Learnt, children-asked, children.Post)
 
   abbrev by-node : node-lts.Claims
   by-node = (next.Asked, next.Learnt, child-of.Asked, child-of.Learnt, rest-of.Asked, rest-of.Learnt, children-asked, children.Post)
@@ -61,7 +61,7 @@ module _ (t : ℕ) where
   -- ---- next_children, where a summary bit is set
 
   abbrev Sized : Type 0
-  Sized = children-lts.After-child-words by-children children-given children.Post
+  Sized = children-lts.After-words-of by-children children-given children.Post
 
   module _ (c : Sized) where
     abbrev entry : children-lts.Start by-children children-given children.Post
@@ -71,8 +71,8 @@ module _ (t : ℕ) where
     abbrev at : ℕ
     at = c .before .before .next .result
 
-    part : Entered (entry .args .j) (entry .args .s .now) at (c .child-words .result)
-    part = enter refl (omega arith) (entry .pre .1 .1) (c .child-words .ensures) (c .before .if1 .left)
+    part : Entered (entry .args .j) (entry .args .s .now) at (c .words-of .result)
+    part = enter refl (omega arith) (entry .pre .1 .1) (c .words-of .ensures) (c .before .if1 .left)
 
     seen : bit (own (entry .args .s .now)) at ≡ true
     seen = laws.at-bit (entry .args .j) (entry .args .s .now) (entry .args .i) at (entry .pre .1 .2) (c .before .before .next .ensures) (c .before .if1 .left)
@@ -113,7 +113,7 @@ pub +next-children+next-node-spec : {M : Type 1} → statement M
     (λ c. let e = c .before .before .before .before .before in
     c .start-of .ensures .0
     ∙ sym (laws.next-none (e .args .j) (e .args .s .now) (e .args .i) _ (e .pre .1 .2) (c .before .before .next .ensures) (e .args .key) (e .pre .1 .4) (c .before .if1 .taken)))
-    -- child-words-requires
+    -- words-of-requires
     (λ c κs. search needs)
     -- mul-a
     (λ c. omega (arith, part t c))

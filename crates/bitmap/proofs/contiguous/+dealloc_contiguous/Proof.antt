@@ -23,7 +23,7 @@ use Rattle.bitmap.proofs.contiguous.+dealloc_contiguous.Lts-dealloc_con
 use Rattle.bitmap.proofs.cascade.high_of.Reads as high-of
 use Rattle.bitmap.proofs.cascade.low_of.Reads as low-of
 use Rattle.bitmap.proofs.sizes.child_of.Reads as child-of
-use Rattle.bitmap.proofs.sizes.child_words.Reads as child-words-of
+use Rattle.bitmap.proofs.sizes.words_of.Reads as words-of
 use Rattle.bitmap.proofs.word.change.Reads as change-word-of
 use Rattle.bitmap.proofs.word.next.Reads as next-of
 use Rattle.bitmap.proofs.word.with_bit.Reads as with-bit
@@ -40,7 +40,7 @@ abbrev asked : ℕ → In 1 kinds.ps
 asked t = and 1 kinds.ps (falls 1 kinds.ps _<_ level t) reads.Pre
 
 abbrev claims : ℕ → lts.Claims
-claims t = (next-of.Asked, next-of.Learnt, change-word-of.Asked, change-word-of.Learnt, child-words-of.Asked, child-words-of.Learnt, child-of.Asked, child-of.Learnt, low-of.Asked, low-of.Learnt, high-of.Asked, high-of.Learnt, asked t, reads.Post, with-bit.Asked, with-bit.Learnt)
+claims t = (next-of.Asked, next-of.Learnt, change-word-of.Asked, change-word-of.Learnt, words-of.Asked, words-of.Learnt, child-of.Asked, child-of.Learnt, low-of.Asked, low-of.Learnt, high-of.Asked, high-of.Learnt, asked t, reads.Post, with-bit.Asked, with-bit.Learnt)
 
 abbrev Inv : lts.InvT-loop
 Inv k s₀ a b j size end w₀ ok₀ i₀ s w ok i = Walk k a b j end i₀ i × Upto j size s₀ (givenKids j s₀ a b) i₀ i s w × (ok ≡ taken? j s₀ a b i)
@@ -57,13 +57,13 @@ module _ (t : ℕ) where
   entry c = c .before .before .before .before .before .before .before .before
 
   -- the part of the child that the loop is at
-  part : (c : Turning) → Entered (entry c .args .k - 1) (c .before .loop .s) (c .before .loop .i) (c .before .before .before .before .before .child-words .result)
+  part : (c : Turning) → Entered (entry c .args .k - 1) (c .before .loop .s) (c .before .loop .i) (c .before .before .before .before .before .words-of .result)
   part c = let h = c .before .loop .inv in walk-enter (h .0) (c .loop-test .taken) (h .1 .size) (kept (h .1))
 
   -- the words and the test after the child was gone into, or passed over
   turned : (c : lts.Joined3 (claims t) (given t) reads.Post Inv μ) →
       let n = c .before in let x = entry n .args in
-      Turned (x .k - 1) (n .before .before .before .before .before .child-words .result) (x .s .now) (givenKids (x .k - 1) (x .s .now) (x .a) (x .b)) (n .before .before .child-of2 .result) (n .before .loop .i) (c .if3 .s) (n .before .loop .w)
+      Turned (x .k - 1) (n .before .before .before .before .before .words-of .result) (x .s .now) (givenKids (x .k - 1) (x .s .now) (x .a) (x .b)) (n .before .before .child-of2 .result) (n .before .loop .i) (c .if3 .s) (n .before .loop .w)
       × (c .if3 .ok ≡ taken? (x .k - 1) (x .s .now) (x .a) (x .b) (n .before .loop .i + 1))
   turned c =
       let n = c .before in
@@ -102,7 +102,7 @@ pub +dealloc-contiguous-spec : {M : Type 1} → statement M
     (h .0, change-word Insert (x .args .s .now) (x .args .a) (x .args .b) _ z (x .pre .1 .1) (c .change .ensures) ∙ h .1))
     -- sub-j
     (λ c. search needs)
-    -- child-words-requires
+    -- words-of-requires
     (λ c κs. search needs)
     -- sub-child-of
     (λ c. search needs)
@@ -117,7 +117,7 @@ pub +dealloc-contiguous-spec : {M : Type 1} → statement M
     -- loop-holds
     (λ c. let x = c .before .before .before .before .before .before in
     let h = walk-turns (level-below (c .before .before .before .before .if1 .left)) (x .pre .1 .0) (x .pre .1 .1) (x .pre .1 .2) (x .pre .1 .3) (c .before .before .before .before .before .slice-known .given 0 .fits)
-    (c .before .before .before .child-words .ensures) (c .before .before .child-of .ensures) (c .child-of2 .ensures)
+    (c .before .before .before .words-of .ensures) (c .before .before .child-of .ensures) (c .child-of2 .ensures)
     _ (sized-given (x .args .k - 1) (x .args .s .now) (x .args .a) (x .args .b)) in
     (h .0, h .1, sym (taken-none (h .0) (x .args .s .now) refl)))
     -- mul-from

@@ -22,7 +22,7 @@ use Rattle.bitmap.proofs.contiguous.+end_of.Lts-end_of as lts
 use Rattle.bitmap.proofs.cascade.high_of.Reads as high-of
 use Rattle.bitmap.proofs.cascade.low_of.Reads as low-of
 use Rattle.bitmap.proofs.sizes.child_of.Reads as child-of
-use Rattle.bitmap.proofs.sizes.child_words.Reads as child-words
+use Rattle.bitmap.proofs.sizes.words_of.Reads as words-of
 use Rattle.bitmap.proofs.sizes.start_of.Reads as start-of
 use Rattle.bitmap.proofs.word.next.Reads as next
 use Rattle.bitmap.proofs.word.test.Reads as test
@@ -39,7 +39,7 @@ abbrev asked : ℕ → In 1 kinds.ps
 asked t = and 1 kinds.ps (falls 1 kinds.ps _<_ level t) reads.Pre
 
 abbrev claims : ℕ → lts.Claims
-claims t = (next.Asked, next.Learnt, child-words.Asked, child-words.Learnt, child-of.Asked, child-of.Learnt, low-of.Asked, low-of.Learnt, test.Asked, test.Learnt, start-of.Asked, start-of.Learnt, high-of.Asked, high-of.Learnt, asked t, reads.Post)
+claims t = (next.Asked, next.Learnt, words-of.Asked, words-of.Learnt, child-of.Asked, child-of.Learnt, low-of.Asked, low-of.Learnt, test.Asked, test.Learnt, start-of.Asked, start-of.Learnt, high-of.Asked, high-of.Learnt, asked t, reads.Post)
 
 abbrev Inv : lts.InvT-loop
 Inv k s a b j size w end i₀ i = Walk k a b j end i₀ i × laws.Passed j size s a b w i
@@ -65,7 +65,7 @@ module _ (t : ℕ) where
   entry c = c .before .before .before .before .before .before .before .before
 
   -- the part of the child that the loop is at
-  part : (c : Turning) → Entered (entry c .args .k - 1) (entry c .args .s .now) (c .before .loop .i) (c .before .before .before .before .before .child-words .result)
+  part : (c : Turning) → Entered (entry c .args .k - 1) (entry c .args .s .now) (c .before .loop .i) (c .before .before .before .before .before .words-of .result)
   part c = let h = c .before .loop .inv in laws.part (h .0) (h .1) (c .loop-test .taken)
 
   -- the child was gone into, its summary bit being set
@@ -85,7 +85,7 @@ pub +end-of-spec : {M : Type 1} → statement M
     (λ c. omega (arith, leaf t (c .before)))
     -- sub-j
     (λ c. search needs)
-    -- child-words-requires
+    -- words-of-requires
     (λ c κs. search needs)
     -- shared-slice-read-w-2
     (λ c. omega (arith, words-pos (c .before .before .before .before .args .k)))
@@ -100,7 +100,7 @@ pub +end-of-spec : {M : Type 1} → statement M
     -- loop-holds
     (λ c. let x = c .before .before .before .before .before .before in
     let walk = walk-start (level-below (c .before .before .before .before .if1 .left)) (x .pre .1 .0) (x .pre .1 .2) (x .pre .1 .3) (c .child-of2 .ensures) (c .before .child-of .ensures) in
-    (walk, laws.passed-start (x .args .s .now) walk (x .pre .1 .1) (c .before .before .before .child-words .ensures)))
+    (walk, laws.passed-start (x .args .s .now) walk (x .pre .1 .1) (c .before .before .before .words-of .ensures)))
     -- low-of-requires
     (λ c κs. omega (arith, part t c))
     -- test-requires
