@@ -3,7 +3,7 @@ use mathlib.Core.Path.{_≡_, refl, sym, ap, _∙_}
 use mathlib.Core.Bool.{true, true≢false}
 use mathlib.Core.List.{List}
 use Prim.Native.Nat.{ℕ, zero, suc, _+_, _*_, _<_}
-use native.Mathlib.Nat.{zero-add, sub-zero}
+use native.Mathlib.Nat.{zero-add, zero-mul, sub-zero}
 use native.Mathlib.Decide.{decLt, ℕ-discrete}
 use native.Mathlib.Omega.{arith}
 use lib.Dec.{leb}
@@ -17,8 +17,7 @@ use Rattle.bitmap.specs.Answer.{given, refuse}
 use Rattle.bitmap.specs.Calls.{allocSays}
 use Rattle.bitmap.proofs.Search.{First, first-is, is-first, first-ext}
 use Rattle.bitmap.proofs.Bits.{no-bits}
-use Rattle.bitmap.proofs.Levels.{cap-pos}
-use Rattle.bitmap.proofs.Nexts.{nextFrom, at-bit, next-skip, next-hit}
+use Rattle.bitmap.proofs.Nexts.{next-hit}
 use Rattle.bitmap.proofs.Truth.{Fits, fits-child, some-no, true-is, live, own-some, free-leaf}
 
 -- the lowest free position of a map, and its positions where there is none
@@ -51,20 +50,11 @@ module _ (k : ℕ) (s : List ℕ) (h : true? k s ≡ true) where
 node-first : (k : ℕ) (s : List ℕ) (i : ℕ) → i ≡ lowestBit (own s) → i < 16 → firstFree k (child k s i) < cap k
     → firstFree (suc k) s ≡ i * cap k + firstFree k (child k s i)
 node-first k s i e l m =
-    sym (from-zero (suc k) s) ∙ start
-    ∙ next-hit k s i 0 l (cap-pos k) (at-bit k s 0 i (omega arith) e l) (firstFree k (child k s i)) (sym (from-zero k (child k s i))) m
+    let h : First (bit (own s)) 0 16 i = rw e (first-is (bit (own s)) 0 16 16 refl) in
+    sym (from-zero (suc k) s) ∙ rw zero-mul at (next-hit k s h l (sym (from-zero k (child k s i))) m)
   where
     from-zero : (j : ℕ) (c : List ℕ) → nextIn (free? j c) (cap j) 0 ≡ firstFree j c
     from-zero j c = ap (firstFrom (free? j c) 0) (sub-zero (cap j))
-
-    zeroth : 0 * cap k + 0 ≡ 0
-    zeroth = omega arith
-
-    start : nextIn (free? (suc k) s) (cap (suc k)) 0 ≡ nextFrom k s i 0
-    start = elim (ℕ-discrete i 0) [
-      | yes z ↦ rw (z, zeroth)
-      | no z ↦ ap (nextIn (free? (suc k) s) (cap (suc k))) (sym zeroth) ∙ next-skip k s 0 i (omega arith) e 0 (cap-pos k) z
-    ]
 
 -- the lowest set bits of a true map lead to it
 pub lowest-free : (k : ℕ) (s : List ℕ) → true? k s ≡ true → Fits s → lowest k s ≡ firstFree k s

@@ -7,10 +7,15 @@ use native.Mathlib.Numerals.{add-one}
 use native.Mathlib.Omega.{arith}
 use lib.Pow.{pow-mono, pow-lt, pow-pos, shr-shr}
 use lib.Bits.{bitAnd, bitOr, and-lt, or-lt, and-mask}
-use lib.Dec.{eqb}
+use lib.Dec.{eqb, leb·zero}
 use lib.Count.{trailingZeros, under}
+use borrow.Author.Tests.{lt-ltb, le-ltb}
+use Rattle.bitmap.specs.declared.cascade.Change.the-variants.{Remove}
 use Rattle.bitmap.specs.Search.{firstFrom}
 use Rattle.bitmap.specs.Bits.{bit, digit, wordOf, within}
+use Rattle.bitmap.specs.Change.{changeWord}
+use Rattle.bitmap.specs.Take.{lowestBit}
+use Rattle.bitmap.proofs.Search.{first-skip, first-ext}
 use Rattle.bitmap.proofs.Bits.{digit-at, bit-pack, pack-lt, is-pack, mask-bit, pow-bit, not-bit, and-bit, or-bit}
 
 -- ---- shifts and masks
@@ -100,3 +105,12 @@ first-zeros (suc m) w k =
 -- the lowest set bit is past all of them
 pub lowest-is : (w : ℕ) → firstFrom (bit w) 0 16 ≡ trailingZeros 16 w
 lowest-is w = rw (div-one, zero-add) at (first-zeros 16 w 0)
+
+-- that of a word without the bits below i is the first from i on
+pub lowest-from : (w i : ℕ) → i ≤ 16 → lowestBit (changeWord Remove w 0 i) ≡ firstFrom (bit w) i (16 - i)
+lowest-from w i h =
+    first-skip (bit (wordOf f)) 0 i 16 (omega arith) h (λ q _ l. bit-pack 16 f q (omega arith) ∙ rw (leb·zero q, lt-ltb q i l))
+    ∙ first-ext (bit (wordOf f)) (bit w) i (16 - i) (λ q l u. bit-pack 16 f q (omega arith) ∙ rw (leb·zero q, le-ltb q i l))
+  where
+    f : ℕ → Bool
+    f j = cond (within 0 i j) false (bit w j)
