@@ -7,6 +7,7 @@ use native.Mathlib.Omega.{arith}
 use lib.Pow.{pow-add, pow-mono}
 use lib.Dec.{eqb}
 use borrow.Author.Tests.{eqb-true, eq-eqb, ne-eqb}
+use Rattle.bitmap.specs.Search.{firstFrom}
 use Rattle.bitmap.specs.Tree.{words, cap}
 use Rattle.bitmap.specs.Calls.{levelOf}
 use Rattle.bitmap.proofs.Search.{first-is, is-first}
@@ -110,3 +111,9 @@ words-level n h = sym (eqb-true n (words (levelOf n)) (first-is (λ k. eqb n (wo
 -- the same, of words that are known
 pub level-at : {n : ℕ} (k : ℕ) → n ≡ words k → k < 7 → k ≡ levelOf n
 level-at k e h = sym (ap levelOf e ∙ level-words k h)
+
+-- a store of any other count has none
+pub level-none : (n : ℕ) → (n ≡ 1 → ⊥) → (n ≡ 17 → ⊥) → (n ≡ 273 → ⊥) → (n ≡ 4369 → ⊥) → (n ≡ 69905 → ⊥) → (n ≡ 1118481 → ⊥) → (n ≡ 17895697 → ⊥)
+    → 7 ≡ levelOf n
+unfolding levelOf firstFrom words
+level-none n a b c d e f g = simp (ne-eqb _ _ a, ne-eqb _ _ b, ne-eqb _ _ c, ne-eqb _ _ d, ne-eqb _ _ e, ne-eqb _ _ f, ne-eqb _ _ g)

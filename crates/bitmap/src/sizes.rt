@@ -62,19 +62,27 @@ impl BitAlloc256M {
     pub const WORDS: usize = 17895697;
 }
 
-// The level of a store of n words; 7 where n is none of the seven counts.
+// The level of a store of n words; 7 where n is none of the seven counts. The sizes in use are asked for first.
 pub fn level_of(n: usize) -> usize
     ensures { λ r. ⌜ (r ≡ levelOf n) × (r ≤ 7) ⌝ }
 {
-    match n {
-        BitAlloc16::WORDS => 0,
-        BitAlloc256::WORDS => 1,
-        BitAlloc4K::WORDS => 2,
-        BitAlloc64K::WORDS => 3,
-        BitAlloc1M::WORDS => 4,
-        BitAlloc16M::WORDS => 5,
-        BitAlloc256M::WORDS => 6,
-        _ => 7,
+    if n == BitAlloc4K::WORDS {
+        2
+    } else if n < BitAlloc4K::WORDS {
+        match n {
+            BitAlloc16::WORDS => 0,
+            BitAlloc256::WORDS => 1,
+            _ => 7,
+        }
+    } else if n <= BitAlloc64K::WORDS {
+        if n == BitAlloc64K::WORDS { 3 } else { 7 }
+    } else {
+        match n {
+            BitAlloc1M::WORDS => 4,
+            BitAlloc16M::WORDS => 5,
+            BitAlloc256M::WORDS => 6,
+            _ => 7,
+        }
     }
 }
 
