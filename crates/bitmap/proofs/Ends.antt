@@ -1,116 +1,105 @@
--- How the search for the first position that is not free goes by a map's children, as a loop over those that a range visits.
--- Assumes nothing.
+-- Where the free positions end: in one leaf word, by the child that it is in, and from word to word. Assumes nothing.
 use mathlib.Core.Path.{_≡_, refl, sym, ap, _∙_}
-use mathlib.Core.Bool.{Bool, true, false, not, _&&_}
+use mathlib.Core.Bool.{Bool, true, false, not}
 use mathlib.Core.List.{List}
-use Prim.Native.Nat.{ℕ, suc, _+_, _-_, _*_, _/_, _^_, min, _≤_, _<_}
-use native.Mathlib.Nat.{suc-mul, div-mul-le-self, div-lt-iff-lt-mul}
-use native.Mathlib.Numerals.{add-one}
+use Prim.Native.Nat.{ℕ, suc, _+_, _-_, _*_, _/_, _%_, _^_, min, _≤_, _<_}
+use native.Mathlib.Nat.{div-add-mod', mod-lt}
+use native.Mathlib.Decide.{decLe}
 use native.Mathlib.Omega.{arith}
-use lib.ListN.{length}
+use lib.Bits.{bitOr, or-add-and, and-mask}
+use Rattle.bitmap.specs.declared.cascade.Change.the-variants.{Remove}
 use Rattle.bitmap.specs.Search.{firstFrom}
 use Rattle.bitmap.specs.Bits.{bit}
-use Rattle.bitmap.specs.Tree.{words, cap, own, child, free?}
-use Rattle.bitmap.specs.Change.{low, high}
-use Rattle.bitmap.proofs.Search.{first-is, first-ext, first-min, first-at}
+use Rattle.bitmap.specs.Tree.{cap, own, child, free?}
+use Rattle.bitmap.specs.Change.{changeWord}
+use Rattle.bitmap.specs.Take.{lowestBit}
+use Rattle.bitmap.proofs.Search.{first-is, first-ext, first-min, first-rest, first-shift, first-at, first-end}
 use Rattle.bitmap.proofs.Bits.{not-bit}
-use Rattle.bitmap.proofs.Levels.{cap-pos, cap-small}
-use Rattle.bitmap.proofs.Spans.{first-in}
-use Rattle.bitmap.proofs.Parts.{lent}
-use Rattle.bitmap.proofs.Path.{Entered, entered-part}
-use Rattle.bitmap.proofs.Walk.{Walk, walk-before, walk-some, walk-enter, walk-call}
+use Rattle.bitmap.proofs.Words.{lowest-from}
+use Rattle.bitmap.proofs.Levels.{cap-pos, cap-small, leaf-cap, start-aligned}
 use Rattle.bitmap.proofs.Nexts.{free-in}
 
 -- position p is not free
 abbrev pub held : ℕ → List ℕ → ℕ → Bool
 held k s p = not (free? k s p)
 
+-- the first position from key on in key's own leaf word that is not free; the word's end where there is none
+abbrev pub endIn : ℕ → List ℕ → ℕ → ℕ
+endIn k s key = firstFrom (held k s) key (16 - key % 16)
+
+-- it is small
+pub end-small : (k : ℕ) (s : List ℕ) (key : ℕ) → k ≤ 6 → key < cap k → endIn k s key ≤ 268435472
+end-small k s key le l = omega (arith, first-is (held k s) key (16 - key % 16) _ refl .upto, cap-small k le)
+
 -- ---- a leaf word
 
-pub end-leaf : (k : ℕ) (s : List ℕ) (a b : ℕ) → k ≡ 0 → own s < 2 ^ 16 → a ≤ b → b ≤ cap k
-    → firstFrom (held k s) a (b - a) ≡ min b (firstFrom (bit ((2 ^ 16 - 1) - own s)) a (16 - a))
-unfolding cap free?
-end-leaf k s a b e fits l m =
-    let small : b ≤ 16 = rw e at m in
-    rw e
-    (first-ext (held 0 s) (bit ((2 ^ 16 - 1) - own s)) a (b - a) (λ q n u. sym (not-bit 16 (own s) q fits (omega arith)))
-    ∙ first-min (bit ((2 ^ 16 - 1) - own s)) a b 16 l small)
+pub end-leaf : {k : ℕ} (s : List ℕ) (key : ℕ) → k ≡ 0 → own s < 2 ^ 16 → key < cap k
+    → lowestBit (changeWord Remove ((2 ^ 16 - 1) - own s) 0 key) ≡ endIn k s key
+unfolding free?
+end-leaf s key e fits l =
+    let small : key < 16 = omega (arith, leaf-cap e) in
+    let whole : 16 - key % 16 ≡ 16 - key = omega arith in
+    rw (e, whole)
+    (lowest-from ((2 ^ 16 - 1) - own s) key (omega arith)
+    ∙ first-ext (bit ((2 ^ 16 - 1) - own s)) (held 0 s) key (16 - key) (λ q n u. not-bit 16 (own s) q fits (omega arith)))
 
--- ---- a map with children, by the loop of `Walk`
+-- ---- a map with children: the key is in child i
 
--- before child i: the first position that is not free stands in child i or after it, or past the range
-pub record Passed (j size : ℕ) (s : List ℕ) (a b w i : ℕ) : Type 0 where
-  pub size-is : size ≡ words j
-  pub len : length s ≡ words (suc j)
-  pub own-is : w ≡ own s
-  pub past : min b (i * cap j) ≤ firstFrom (held (suc j) s) a (b - a)
+module _ {k j i : ℕ} (s : List ℕ) (key : ℕ) (up : suc j ≡ k) (at : i ≡ key / cap j) where
+  -- whose summary bit is 0
+  pub end-off : bit (own s) i ≡ false → endIn k s key ≡ key
+  unfolding free?
+  end-off off =
+      let n : 16 - key % 16 ≡ key + (16 - key % 16) - key = omega arith in
+      let here : held (suc j) s key ≡ true = rw (← at, off) in
+      rw (← up, n) (first-at (held (suc j) s) key (key + (16 - key % 16)) (omega arith) here)
 
--- before the first child visited
-pub passed-start : {k a b j size end i₀ : ℕ} (s : List ℕ) → Walk k a b j end i₀ i₀ → length s ≡ words k → size ≡ words j → Passed j size s a b (own s) i₀
-passed-start {k} {a} {b} {j} {size} s v len es =
-    let full : length s ≡ words (suc j) = len ∙ ap words (sym (v .level)) in
-    let t = first-is (held (suc j) s) a (b - a) b (omega arith) in
-    record {
-      size-is = es;
-      len = full;
-      own-is = refl;
-      past = omega (arith, t .from, ap (λ (n : ℕ). n * cap j) (v .first), div-mul-le-self a (cap j));
-    }
+  -- or is 1: the word is one of the child's, r positions into which the key is
+  pub end-in : {r q : ℕ} {x : List ℕ} → bit (own s) i ≡ true → r ≡ key % cap j → x ≡ child j s i → q ≡ endIn j x r → endIn k s key ≡ i * cap j + q
+  end-in {r} on er ex eq =
+      let whole : key ≡ i * cap j + r = rw (at, er) (sym (div-add-mod' key (cap j))) in
+      let below : r < cap j = rw er (mod-lt key (cap-pos j)) in
+      let same : key % 16 ≡ r % 16 = omega (arith, start-aligned j i) in
+      let stays : r + (16 - r % 16) ≤ cap j = omega (arith, start-aligned j 1) in
+      rw (← up, same, whole, eq, ex)
+      (first-shift (held (suc j) s) (i * cap j) r (16 - r % 16)
+      ∙ ap (λ (n : ℕ). i * cap j + n)
+      (first-ext (λ q. held (suc j) s (i * cap j + q)) (held j (child j s i)) r (16 - r % 16) (λ q l u. rw (free-in j s i q (omega arith), on))))
 
-module _ {k a b j size w end i₀ i : ℕ} {s : List ℕ} (v : Walk k a b j end i₀ i) (h : Passed j size s a b w i) where
-  level-is : firstFrom (held k s) a (b - a) ≡ firstFrom (held (suc j) s) a (b - a)
-  level-is = ap (λ (n : ℕ). firstFrom (held n s) a (b - a)) (sym (v .level))
+-- ---- from word to word
 
-  -- after the last child there is none
-  pub passed-all : end ≤ i → firstFrom (held k s) a (b - a) ≡ b
-  passed-all l =
-      let t = first-is (held (suc j) s) a (b - a) b (omega arith) in
-      let last : (b - 1) / cap j < i = omega arith in
-      let below : b - 1 < i * cap j = div-lt-iff-lt-mul (cap-pos j) .0 last in
-      level-is ∙ omega (arith, h .past, t .upto)
+-- `(x | 15) + 1` is the end of x's leaf word
+pub word-end : (x : ℕ) → bitOr x 15 + 1 ≡ x + (16 - x % 16)
+word-end x = omega (arith, or-add-and x 15, and-mask x 4)
 
-  module _ (l : i < end) where
-    -- the child's part
-    pub part : Entered j s i size
-    part = walk-enter v l (h .size-is) (h .len)
+-- the search from a up to b goes on at x, which may stand past b
+abbrev pub Reached : (ℕ → Bool) → ℕ → ℕ → ℕ → Type 0
+Reached f a b x = firstFrom f a (b - a) ≡ min b (firstFrom f x (b - x))
 
-    held-in : {x : Bool} → bit w i ≡ x → (q : ℕ) → q < cap j → held (suc j) s (i * cap j + q) ≡ not (x && free? j (child j s i) q)
-    held-in e q m =
-        ap not (free-in j s i q m ∙ ap (λ (y : Bool). y && free? j (child j s i) q) (ap (λ (z : ℕ). bit z i) (sym (h .own-is)) ∙ e))
+module _ (f : ℕ → Bool) (a b : ℕ) where
+  -- at the start
+  pub reached-start : a ≤ b → Reached f a b a
+  reached-start l = first-min f a b b l (omega arith)
 
-    reached : i * cap j ≤ firstFrom (held (suc j) s) a (b - a)
-    reached = omega (arith, h .past, walk-before v l)
+  -- past the end there is none
+  pub reached-end : (x : ℕ) → Reached f a b x → b ≤ x → firstFrom f a (b - a) ≡ b
+  reached-end x h l = omega (arith, first-end f x b l)
 
-    -- lo and hi are where the range starts and ends in child i
-    module _ (lo hi : ℕ) (el : lo ≡ low (cap j) a i) (eh : hi ≡ high (cap j) b i) where
-      pub part-small : (lo < hi) × (hi ≤ 268435456)
-      part-small = let c = walk-call v l part el eh in (c .2, omega (arith, cap-small j (omega arith)))
+  -- one word further, up to its end e: the first in it is r
+  module _ (x : ℕ) {e r : ℕ} (h : Reached f a b x) (m : x < b) (ee : e ≡ x + (16 - x % 16)) (er : r ≡ firstFrom f x (16 - x % 16)) where
+    first-r : r ≡ firstFrom f x (e - x)
+    first-r = let n : 16 - x % 16 ≡ e - x = omega arith in er ∙ ap (firstFrom f x) n
 
-      in-part : (g : ℕ → Bool) → ((q : ℕ) → q < cap j → held (suc j) s (i * cap j + q) ≡ g q)
-          → firstFrom g lo (hi - lo) ≡ min hi (firstFrom (held (suc j) s) a (b - a) - i * cap j)
-      in-part g e = rw (el, eh) (first-in (held (suc j) s) g (cap j) a b i (omega arith) (walk-some v l) e reached)
+    -- it is found there
+    pub reached-found : r < e → firstFrom f a (b - a) ≡ min b r
+    reached-found l = elim (decLe b e) [
+      | yes u ↦ omega (arith, first-r, first-min f x b e (omega arith) u)
+      | no u ↦ omega (arith, first-r, first-min f x e b (omega arith) (omega arith))
+    ]
 
-      -- a child whose summary bit is 0
-      pub end-off : bit w i ≡ false → firstFrom (held k s) a (b - a) ≡ i * cap j + lo
-      end-off e = level-is ∙ omega (arith, reached, part-small, in-part (λ _. true) (held-in e), first-at (λ _. true) lo hi (part-small .0) refl)
-
-      -- a child that is gone into
-      module _ (r : ℕ) (on : bit w i ≡ true) (er : r ≡ firstFrom (held j (lent size s i)) lo (hi - lo)) where
-        found : r ≡ min hi (firstFrom (held (suc j) s) a (b - a) - i * cap j)
-        found = er ∙ ap (λ (x : List ℕ). firstFrom (held j x) lo (hi - lo)) (entered-part part) ∙ in-part (held j (child j s i)) (held-in on)
-
-        -- has one that is not free
-        pub end-in : r < hi → firstFrom (held k s) a (b - a) ≡ i * cap j + r
-        end-in m = level-is ∙ omega (arith, reached, found)
-
-        -- or none, and the search goes on
-        pub passed-next : hi ≤ r → Passed j size s a b w (i + 1)
-        unfolding high
-        passed-next m =
-            let up : (i + 1) * cap j ≡ i * cap j + cap j = rw (add-one, suc-mul) in
-            record {
-              size-is = h .size-is;
-              len = h .len;
-              own-is = h .own-is;
-              past = omega (arith, reached, found);
-            }
+    -- or not, and the search goes on at e
+    pub reached-next : e ≤ r → Reached f a b e
+    reached-next l = elim (decLe b e) [
+      | yes u ↦ omega (arith, first-r, first-min f x b e (omega arith) u, first-end f e b u)
+      | no u ↦ h ∙ ap (min b) (first-rest f x e b (omega arith) (omega arith) (rw (← first-r) l))
+    ]

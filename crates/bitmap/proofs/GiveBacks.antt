@@ -3,21 +3,22 @@
 use mathlib.Core.Path.{_≡_, refl, sym, ap, ap₂, _∙_}
 use mathlib.Core.Bool.{Bool, true, false, cond, _&&_, and-false}
 use mathlib.Core.List.{List}
-use Prim.Native.Nat.{ℕ, zero, suc, _+_, _-_, _*_, min, _<_, _≤_}
+use Prim.Native.Nat.{ℕ, zero, suc, _+_, _-_, _*_, _^_, min, _<_, _≤_}
 use native.Mathlib.Nat.{suc-mul, div-mul-le-self, div-lt-iff-lt-mul}
 use native.Mathlib.Numerals.{add-one}
 use native.Mathlib.Decide.{decLe, decLt}
 use native.Mathlib.Omega.{arith}
+use lib.Bits.{bitAnd}
 use lib.ListN.{length}
 use lib.Dec.{leb, ltb}
 use borrow.Author.Tests.{lt-ltb, le-ltb, le-leb, lt-leb, leb-true, leb-false, ltb-true}
 use Rattle.bitmap.specs.declared.cascade.Change.the-variants.{Insert}
-use Rattle.bitmap.specs.Search.{firstFrom}
-use Rattle.bitmap.specs.Bits.{bit}
+use Rattle.bitmap.specs.Bits.{wordOf, within}
 use Rattle.bitmap.specs.Tree.{words, cap, own, child, replaced, renew, leaf?}
 use Rattle.bitmap.specs.Change.{low, high, visits, change}
 use Rattle.bitmap.specs.GiveBack.{firstLeaf, giveBack}
 use Rattle.bitmap.proofs.Search.{First, and-both}
+use Rattle.bitmap.proofs.Words.{mask-some, mask-none}
 use Rattle.bitmap.proofs.Levels.{cap-pos, leaf-cap}
 use Rattle.bitmap.proofs.Rows.{length-child}
 use Rattle.bitmap.proofs.Spans.{visited-start}
@@ -26,24 +27,24 @@ use Rattle.bitmap.proofs.Changes.{length-change}
 use Rattle.bitmap.proofs.Walk.{Walk, walk-some, walk-before}
 use Rattle.bitmap.proofs.Leaves.{first-leaf, first-word, first-part, first-none}
 
--- ---- a leaf word, by the first of its set bits from a on
+-- ---- a leaf word, by its bits under the mask of the run
 
-module _ {k r : ℕ} (s : List ℕ) (a b : ℕ) (z : k ≡ 0) (some : a < b) (ends : b ≤ cap k) (e : r ≡ firstFrom (bit (own s)) a (16 - a)) where
-  first-r : firstLeaf k s a b ≡ min b r
-  first-r = first-word s a b z (omega arith) (omega (arith, leaf-cap z)) ∙ ap (min b) (sym e)
+module _ {k m : ℕ} (s : List ℕ) (a b : ℕ) (z : k ≡ 0) (fits : own s < 2 ^ 16) (some : a < b) (ends : b ≤ cap k) (e : m ≡ wordOf (within a b)) where
+  small : b ≤ 16
+  small = omega (arith, leaf-cap z)
 
   -- it stays
-  pub stay-word : r < b → (false ≡ leb b (firstLeaf k s a b)) × (s ≡ giveBack k s a b)
+  pub stay-word : (bitAnd (own s) m ≡ 0 → ⊥) → (false ≡ leb b (firstLeaf k s a b)) × (s ≡ giveBack k s a b)
   unfolding giveBack
-  stay-word l =
-      let lt : firstLeaf k s a b < b = omega (arith, first-r) in
+  stay-word ne =
+      let lt : firstLeaf k s a b < b = rw (first-word s a b z) (mask-some (own s) a b fits (omega arith) small (rw e at ne)) in
       (sym (lt-leb b (firstLeaf k s a b) lt), rw z (rw (lt-ltb (firstLeaf 0 s a b) b (rw z at lt))))
 
   -- or is freed
-  pub free-word : b ≤ r → (true ≡ leb b (firstLeaf k s a b)) × (change Insert k s a b ≡ giveBack k s a b)
+  pub free-word : bitAnd (own s) m ≡ 0 → (true ≡ leb b (firstLeaf k s a b)) × (change Insert k s a b ≡ giveBack k s a b)
   unfolding giveBack
-  free-word l =
-      let le : b ≤ firstLeaf k s a b = omega (arith, first-r) in
+  free-word none =
+      let le : b ≤ firstLeaf k s a b = rw (first-word s a b z) (mask-none (own s) a b fits (omega arith) small (rw e at none)) in
       (sym (le-leb b (firstLeaf k s a b) le), rw z (rw (le-ltb (firstLeaf 0 s a b) b (rw z at le))))
 
 -- ---- its words keep their number

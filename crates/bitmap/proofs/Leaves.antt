@@ -8,7 +8,7 @@ use Rattle.bitmap.specs.Bits.{bit}
 use Rattle.bitmap.specs.Tree.{cap, own, child, leaf?}
 use Rattle.bitmap.specs.Change.{low, high}
 use Rattle.bitmap.specs.GiveBack.{firstLeaf}
-use Rattle.bitmap.proofs.Search.{First, first-is, first-min}
+use Rattle.bitmap.proofs.Search.{First, first-is}
 use Rattle.bitmap.proofs.Spans.{first-in}
 use Rattle.bitmap.proofs.Truth.{leaf-in}
 
@@ -17,9 +17,9 @@ pub first-leaf : (k : ℕ) (s : List ℕ) (a b : ℕ) → a ≤ b → First (lea
 first-leaf k s a b l = first-is (leaf? k s) a (b - a) b (omega arith)
 
 -- in a leaf word
-pub first-word : {k : ℕ} (s : List ℕ) (a b : ℕ) → k ≡ 0 → a ≤ b → b ≤ 16 → firstLeaf k s a b ≡ min b (firstFrom (bit (own s)) a (16 - a))
+pub first-word : {k : ℕ} (s : List ℕ) (a b : ℕ) → k ≡ 0 → firstLeaf k s a b ≡ firstFrom (bit (own s)) a (b - a)
 unfolding leaf?
-first-word s a b z l e = rw z (first-min (bit (own s)) a b 16 l e)
+first-word s a b z = rw z
 
 -- in a child that has some of the run, and before which none is set: that of the run, or the end of the child's part
 pub first-part : (k : ℕ) (s : List ℕ) (a b i : ℕ) → a ≤ b → low (cap k) a i < high (cap k) b i → i * cap k ≤ firstLeaf (suc k) s a b

@@ -1,8 +1,8 @@
 -- How many words and positions a map of each level has, and its level by its words. Assumes nothing.
 use mathlib.Core.Path.{_≡_, refl, sym, ap, _∙_}
 use mathlib.Core.Logic.{⊎-elim}
-use Prim.Native.Nat.{ℕ, zero, suc, _+_, _*_, _-_, _/_, _^_, _≤_, _<_}
-use native.Mathlib.Nat.{mul-le-mul-right, eq-or-lt-of-le}
+use Prim.Native.Nat.{ℕ, zero, suc, _+_, _*_, _-_, _/_, _%_, _^_, _≤_, _<_}
+use native.Mathlib.Nat.{mul-le-mul-right, mul-left-comm, eq-or-lt-of-le}
 use native.Mathlib.Omega.{arith}
 use lib.Pow.{pow-add, pow-mono}
 use lib.Dec.{eqb}
@@ -80,6 +80,12 @@ words-shift (suc (suc (suc (suc (suc (suc (suc k))))))) h = absurd (omega arith)
 -- a child starts in the map
 pub start-small : (j i : ℕ) → j ≤ 5 → i ≤ 16 → i * cap j ≤ 268435456
 start-small j i h l = omega (arith, mul-le-mul-right (cap j) l, cap-node j, cap-small (suc j) (omega arith))
+
+-- and with a leaf word
+pub start-aligned : (j i : ℕ) → i * cap j % 16 ≡ 0
+unfolding cap
+start-aligned zero i = omega arith
+start-aligned (suc j) i = rw (mul-left-comm i 16 (cap j)) (omega arith)
 
 -- ---- the level of a store by its words
 

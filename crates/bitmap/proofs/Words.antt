@@ -1,6 +1,7 @@
--- What the machine forms compute: shifts, masks, bits set and cleared, and a count of zeros. Assumes nothing.
+-- What the machine forms compute: shifts, masks, bits set, cleared and tested, and a count of zeros. Assumes nothing.
 use mathlib.Core.Path.{_≡_, refl, sym, ap, _∙_}
-use mathlib.Core.Bool.{Bool, true, false, cond, not, _&&_, _||_}
+use mathlib.Core.Bool.{Bool, true, false, cond, not, _&&_, _||_, and-false, true≢false}
+use mathlib.Core.Logic.{⊎-elim}
 use Prim.Native.Nat.{ℕ, zero, suc, _+_, _-_, _*_, _/_, _%_, _^_, _≤_, _<_}
 use native.Mathlib.Nat.{one-mul, mod-eq-of-lt, lt-of-le-of-lt, div-mul-le-self, div-one, zero-add, add-zero, suc-add, add-suc}
 use native.Mathlib.Numerals.{add-one}
@@ -9,14 +10,14 @@ use lib.Pow.{pow-mono, pow-lt, pow-pos, shr-shr}
 use lib.Bits.{bitAnd, bitOr, and-lt, or-lt, and-mask}
 use lib.Dec.{eqb, leb·zero}
 use lib.Count.{trailingZeros, under}
-use borrow.Author.Tests.{lt-ltb, le-ltb}
+use borrow.Author.Tests.{lt-ltb, le-ltb, ltb-true, le-leb, leb-true}
 use Rattle.bitmap.specs.declared.cascade.Change.the-variants.{Remove}
 use Rattle.bitmap.specs.Search.{firstFrom}
 use Rattle.bitmap.specs.Bits.{bit, digit, wordOf, within}
 use Rattle.bitmap.specs.Change.{changeWord}
 use Rattle.bitmap.specs.Take.{lowestBit}
-use Rattle.bitmap.proofs.Search.{first-skip, first-ext}
-use Rattle.bitmap.proofs.Bits.{digit-at, bit-pack, pack-lt, is-pack, mask-bit, pow-bit, not-bit, and-bit, or-bit}
+use Rattle.bitmap.proofs.Search.{First, sort, first-is, first-ext, first-skip, and-both}
+use Rattle.bitmap.proofs.Bits.{digit-at, bit-of-zero, bit-pack, pack-lt, is-pack, no-bits, mask-bit, pow-bit, not-bit, and-bit, or-bit}
 
 -- ---- shifts and masks
 
@@ -88,6 +89,43 @@ module _ (w : ℕ) (f : ℕ → Bool) (h : w < 2 ^ 16) where
 
   pub remove-is : bitAnd w ((2 ^ 16 - 1) - wordOf f) ≡ wordOf (λ i. cond (f i) false (bit w i))
   remove-is = but-word w (wordOf f) f h (pack-lt 16 f) (bit-pack 16 f)
+
+-- ---- bits tested by a mask
+
+module _ (w a b : ℕ) (fits : w < 2 ^ 16) (le : a ≤ b) (small : b ≤ 16) where
+  abbrev masked : ℕ
+  masked = bitAnd w (wordOf (within a b))
+
+  abbrev first : ℕ
+  first = firstFrom (bit w) a (b - a)
+
+  masked-bit : (i : ℕ) → i < 16 → bit masked i ≡ (bit w i && within a b i)
+  masked-bit i l = and-bit w (wordOf (within a b)) i ∙ ap (λ (x : Bool). bit w i && x) (bit-pack 16 (within a b) i l)
+
+  t : First (bit w) a b first
+  t = first-is (bit w) a (b - a) b (omega arith)
+
+  -- `w & mask(a, b) == 0`: none is set
+  pub mask-none : masked ≡ 0 → b ≤ first
+  mask-none e =
+      let on : first < b → bit masked first ≡ true = λ l. masked-bit first (omega arith) ∙ rw (t .here l, le-leb a first (t .from), lt-ltb first b l) in
+      let none : ¬ (first < b) = λ l. true≢false (sym (on l) ∙ ap (λ (n : ℕ). bit n first) e ∙ bit-of-zero first) in
+      omega arith
+
+  -- and otherwise one is
+  pub mask-some : (masked ≡ 0 → ⊥) → first < b
+  mask-some ne =
+      let some : ¬ (b ≤ first) = λ l. ne (no-bits 16 masked (and-lt 16 w (wordOf (within a b)) fits (pack-lt 16 (within a b))) (λ i u. masked-bit i u ∙ off l i)) in
+      omega arith
+    where
+      off : b ≤ first → (i : ℕ) → (bit w i && within a b i) ≡ false
+      off l i =
+          ⊎-elim
+          (λ y. let p = and-both _ _ y in
+          let below : i < first = omega (arith, ltb-true i b (p .1)) in
+          rw (t .before i (leb-true a i (p .0)) below))
+          (λ y. rw y (and-false (bit w i)))
+          (sort (within a b i))
 
 -- ---- a count of zeros
 

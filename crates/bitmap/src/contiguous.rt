@@ -1,7 +1,7 @@
 // Aligned runs: finding one, checking one at a base, and the crate's run give-back. Over a map of level k, as cascade.rt.
 ghost use mathlib.Core.Path.{_≡_};
 ghost use mathlib.Core.Bool.{true, not};
-ghost use Prim.Native.Nat.{suc, _+_, _-_, _*_, _/_, _^_, min, _≤_, _<_};
+ghost use Prim.Native.Nat.{suc, _+_, _-_, _*_, _/_, _%_, _^_, min, _≤_, _<_};
 ghost use lib.Dec.{eqb, leb};
 ghost use lib.ListN.{length};
 ghost use Rattle.bitmap.specs.declared.contiguous.Base.the-variants.{Any, At};
@@ -59,34 +59,72 @@ pub fn run_end(base: usize, size: usize) -> usize
     }
 }
 
+// The first position from key on in key's own leaf word that is not free and seen; the word's end where there is none.
+pub fn end_in_word(k: usize, s: &[u16], key: usize) -> usize
+    requires { ⌜ (k ≤ 6) × (length (now s) ≡ words k) × (key < cap k) ⌝ }
+    ensures { λ r. ⌜ r ≡ firstFrom (λ p. not (free? k (now (s .entry)) p)) key (16 - key % 16) ⌝ }
+{
+    if k == 0 {
+        let w = s[0];
+        return word::lowest(word::change(Change::Remove, !w, 0, key));
+    }
+    let j = k - 1;
+    let i = sizes::child_of(j, key);
+    if !word::test(s[0], i) {
+        return key;
+    }
+    let size = sizes::words_of(j);
+    let from = 1 + i * size;
+    let to = from + size;
+    sizes::start_of(j, i) + end_in_below(j, &s[from..to], sizes::rest_of(j, key))
+}
+
+// The same by a table of the levels, so that the compiled code has each level's numbers in it.
+pub fn end_in_below(k: usize, s: &[u16], key: usize) -> usize
+    requires { ⌜ (k ≤ 5) × (length (now s) ≡ words k) × (key < cap k) ⌝ }
+    ensures { λ r. ⌜ r ≡ firstFrom (λ p. not (free? k (now (s .entry)) p)) key (16 - key % 16) ⌝ }
+{
+    match k {
+        0 => end_in_word(0, s, key),
+        1 => end_in_word(1, s, key),
+        2 => end_in_word(2, s, key),
+        3 => end_in_word(3, s, key),
+        4 => end_in_word(4, s, key),
+        _ => end_in_word(5, s, key),
+    }
+}
+
 // The first position from a up to b that is not free and seen; b where there is none.
 pub fn end_of(k: usize, s: &[u16], a: usize, b: usize) -> usize
     requires { ⌜ (k ≤ 6) × (length (now s) ≡ words k) × (a < b) × (b ≤ cap k) ⌝ }
     ensures { λ r. ⌜ r ≡ firstFrom (λ p. not (free? k (now (s .entry)) p)) a (b - a) ⌝ }
 {
-    if k == 0 {
-        let w = s[0];
-        let r = word::next(!w, a);
-        return if r < b { r } else { b };
-    }
-    let j = k - 1;
-    let size = sizes::words_of(j);
-    let w = s[0];
-    let end = sizes::child_of(j, b - 1) + 1;
-    for i in sizes::child_of(j, a)..end {
-        let low = cascade::low_of(j, a, i);
-        if !word::test(w, i) {
-            return sizes::start_of(j, i) + low;
+    let mut x = a;
+    while x < b {
+        let r = end_in_word(k, s, x);
+        let word_end = (x | 15) + 1;
+        if r < word_end {
+            return if r < b { r } else { b };
         }
-        let high = cascade::high_of(j, b, i);
-        let from = 1 + i * size;
-        let to = from + size;
-        let r = end_of(j, &s[from..to], low, high);
-        if r < high {
-            return sizes::start_of(j, i) + r;
-        }
+        x = word_end;
     }
     b
+}
+
+// The same by a table of the levels, so that the compiled code has each level's numbers in it.
+pub fn end_at(k: usize, s: &[u16], a: usize, b: usize) -> usize
+    requires { ⌜ (k ≤ 6) × (length (now s) ≡ words k) × (a < b) × (b ≤ cap k) ⌝ }
+    ensures { λ r. ⌜ r ≡ firstFrom (λ p. not (free? k (now (s .entry)) p)) a (b - a) ⌝ }
+{
+    match k {
+        0 => end_of(0, s, a, b),
+        1 => end_of(1, s, a, b),
+        2 => end_of(2, s, a, b),
+        3 => end_of(3, s, a, b),
+        4 => end_of(4, s, a, b),
+        5 => end_of(5, s, a, b),
+        _ => end_of(6, s, a, b),
+    }
 }
 
 // The same from base on, beside a position that was found free: where that is base itself, only the rest is looked up.
@@ -95,13 +133,13 @@ pub fn rest_end(k: usize, s: &[u16], free: usize, base: usize, to: usize) -> usi
     ensures { λ r. ⌜ r ≡ firstFrom (λ p. not (free? k (now (s .entry)) p)) base (to - base) ⌝ }
 {
     if free != base {
-        return end_of(k, s, base, to);
+        return end_at(k, s, base, to);
     }
     let next = base + 1;
     if next == to {
         return to;
     }
-    end_of(k, s, next, to)
+    end_at(k, s, next, to)
 }
 
 // The lowest aligned run, or the refusal.
@@ -155,7 +193,7 @@ pub fn check_contiguous(k: usize, s: &[u16], base: usize, size: usize, align_log
     if cap < to {
         return Taken::No(Refusal::PastEnd);
     }
-    let end = end_of(k, s, base, to);
+    let end = end_at(k, s, base, to);
     if end == to {
         return Taken::At(base);
     }
@@ -181,7 +219,7 @@ pub fn dealloc_contiguous(k: usize, s: &mut [u16], a: usize, b: usize) -> bool
 {
     if k == 0 {
         let w = s[0];
-        if word::next(w, a) < b {
+        if w & word::mask(a, b) != 0 {
             return false;
         }
         s[0] = word::change(Change::Insert, w, a, b);
@@ -196,7 +234,7 @@ pub fn dealloc_contiguous(k: usize, s: &mut [u16], a: usize, b: usize) -> bool
         let from = 1 + i * size;
         let to = from + size;
         if ok {
-            ok = dealloc_contiguous(
+            ok = dealloc_contiguous_below(
                 j,
                 &mut s[from..to],
                 cascade::low_of(j, a, i),
@@ -207,4 +245,20 @@ pub fn dealloc_contiguous(k: usize, s: &mut [u16], a: usize, b: usize) -> bool
     }
     s[0] = w;
     ok
+}
+
+// The same by a table of the levels, so that the compiled code has each level's numbers in it.
+pub fn dealloc_contiguous_below(k: usize, s: &mut [u16], a: usize, b: usize) -> bool
+    requires { ⌜ (k ≤ 5) × (length (now s) ≡ words k) × (a < b) × (b ≤ cap k) ⌝ }
+    ensures { λ r. ⌜ r ≡ leb b (firstLeaf k (now (s .entry)) a b) ⌝ }
+    ensures { λ _. ⌜ now (s .exit) ≡ giveBack k (now (s .entry)) a b ⌝ }
+{
+    match k {
+        0 => dealloc_contiguous(0, s, a, b),
+        1 => dealloc_contiguous(1, s, a, b),
+        2 => dealloc_contiguous(2, s, a, b),
+        3 => dealloc_contiguous(3, s, a, b),
+        4 => dealloc_contiguous(4, s, a, b),
+        _ => dealloc_contiguous(5, s, a, b),
+    }
 }

@@ -59,21 +59,21 @@ returns-4 c =
     let a = n .before .before .before .before .before .before .before .args in
     cases.at-past (a .size) (a .align-log2) (a .k) (a .s .now) (a .base) (fits (n .before .before .before)) (multiple (n .before)) (n .if3 .left) (omega arith)
 
-end-of-requires : tie.Need-end-of-requires
-end-of-requires c κs = search needs
+end-at-requires : tie.Need-end-at-requires
+end-at-requires c κs = search needs
 
 -- the end that was looked up, of a run that lies in the map
-module _ (c : tie.After-end-of) where
+module _ (c : tie.After-end-at) where
   abbrev start : tie.Start
   start = c .before .before .before .before .before .before .before .before .before .before
 
   room : start .args .base + start .args .size ≤ cap (start .args .k)
   room = omega (arith, cap-small (start .args .k) (start .pre .0))
 
-  end-is : c .end-of .result ≡ firstFrom (λ p. not (free? (start .args .k) (start .args .s .now) p)) (start .args .base) (start .args .base + start .args .size - start .args .base)
+  end-is : c .end-at .result ≡ firstFrom (λ p. not (free? (start .args .k) (start .args .s .now) p)) (start .args .base) (start .args .base + start .args .size - start .args .base)
   end-is =
       let to : c .before .before .run-end .result ≡ start .args .base + start .args .size = omega (arith, cap-small (start .args .k) (start .pre .0)) in
-      c .end-of .ensures ∙ ap (λ (n : ℕ). firstFrom (λ p. not (free? (start .args .k) (start .args .s .now) p)) (start .args .base) (n - start .args .base)) to
+      c .end-at .ensures ∙ ap (λ (n : ℕ). firstFrom (λ p. not (free? (start .args .k) (start .args .s .now) p)) (start .args .base) (n - start .args .base)) to
 
 returns-5 : tie.Need-returns-5
 returns-5 c =
@@ -102,6 +102,6 @@ check-contiguous-spec =
     returns-3
     run-end-requires
     returns-4
-    end-of-requires
+    end-at-requires
     returns-5
     returns-6)

@@ -20,8 +20,8 @@ module _ (c : tie.Else1) where
   known : held (start .args .base) ≡ false
   known = ap held (sym (c .if1 .left)) ∙ ap not (start .pre .4)
 
-end-of-requires : tie.Need-end-of-requires
-end-of-requires c κs = search needs
+end-at-requires : tie.Need-end-at-requires
+end-at-requires c κs = search needs
 
 returns : tie.Need-returns
 returns c = search needs
@@ -35,15 +35,15 @@ returns-2 c =
     let a = start e .args in
     sym (first-on (held e) (a .base) (a .to) (omega arith) (known e) ∙ first-end (held e) _ (a .to) (omega arith) ∙ omega arith)
 
-end-of-requires-2 : tie.Need-end-of-requires-2
-end-of-requires-2 c κs = search needs
+end-at-requires-2 : tie.Need-end-at-requires-2
+end-at-requires-2 c κs = search needs
 
 returns-3 : tie.Need-returns-3
 returns-3 c =
     let e = c .before .before in
     let a = start e .args in
-    c .end-of2 .ensures ∙ sym (first-on (held e) (a .base) (a .to) (omega arith) (known e))
+    c .end-at2 .ensures ∙ sym (first-on (held e) (a .base) (a .to) (omega arith) (known e))
 
 pub rest-end-spec : {M : Type 1} → statement M
 rest-end-spec =
-    tie.close (tie.spec end-of-requires returns add-next returns-2 end-of-requires-2 returns-3)
+    tie.close (tie.spec end-at-requires returns add-next returns-2 end-at-requires-2 returns-3)

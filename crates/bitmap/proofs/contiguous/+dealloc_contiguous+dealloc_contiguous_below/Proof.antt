@@ -1,16 +1,21 @@
--- The proof of the cycle of calls {contiguous::dealloc_contiguous}. The measure is the level. The loop is the one of `Walk` and
--- `Turn`, each of the children becoming what a give-back leaves of it; `ok` is `taken?`. Assumes nothing.
-use mathlib.Core.Path.{_≡_, refl, sym, _∙_}
+-- The proof of the cycle of calls {contiguous::dealloc_contiguous, contiguous::dealloc_contiguous_below}. The measure is 2 k for a map of
+-- level k, and 2 k + 1 for the table. The loop is the one of `Walk` and `Turn`, each of the children becoming what a give-back leaves of
+-- it; `ok` is `taken?`. Assumes nothing.
+use mathlib.Core.Path.{_≡_, refl, sym, ap, _∙_}
+use mathlib.Core.Bool.{Bool}
 use mathlib.Core.Logic.{⊎-elim}
-use Prim.Native.Nat.{ℕ, _+_, _-_, _<_}
+use mathlib.Core.List.{List}
+use Prim.Native.Nat.{ℕ, _+_, _-_, _*_, _≤_, _<_}
 use native.Mathlib.Nat.{div-le-self}
 use native.Mathlib.Omega.{arith}
-use lib.ListN.{length-set}
+use lib.Dec.{leb}
+use lib.ListN.{length, length-set}
 use borrow.Author.Needs.{needs}
 use borrow.Fn.Kinds.{In}
 use borrow.Fn.PlainCycle.{Measures, is, falls, and}
 use Rattle.bitmap.specs.declared.cascade.Change.the-variants.{Insert}
-use Rattle.bitmap.specs.Tree.{cap}
+use Rattle.bitmap.specs.Tree.{words, cap}
+use Rattle.bitmap.specs.GiveBack.{firstLeaf, giveBack}
 use Rattle.bitmap.proofs.Levels.{words-pos, leaf-cap}
 use Rattle.bitmap.proofs.Turn.{Upto, Turned, kept, lent-now, turn, turn-kept}
 use Rattle.bitmap.proofs.Changes.{change-word}
@@ -19,19 +24,25 @@ use Rattle.bitmap.proofs.Walk.{Walk, walk-turns, walk-some, walk-call, 
 use Rattle.bitmap.proofs.GiveBacks.{givenKids, sized-given, given-kid, passed-kid, give-kids, stay-word, free-word, taken?, taken-none, taken-all, taken-true, taken-false, taken-more, taken-less}
 use Rattle.bitmap.proofs.contiguous.dealloc_contiguous.Reads as reads
 use Rattle.bitmap.proofs.contiguous.dealloc_contiguous.Kinds as kinds
-use Rattle.bitmap.proofs.contiguous.+dealloc_contiguous.Lts-dealloc_contiguous as lts
+use Rattle.bitmap.proofs.contiguous.+dealloc_contiguous+dealloc_contiguous_below.Lts-dealloc_contiguous as lts
+use Rattle.bitmap.proofs.contiguous.dealloc_contiguous_below.Reads as table
+use Rattle.bitmap.proofs.contiguous.dealloc_contiguous_below.Kinds as table-kinds
+use Rattle.bitmap.proofs.contiguous.+dealloc_contiguous+dealloc_contiguous_below.Lts-dealloc_contiguous_below as table-lts
 use Rattle.bitmap.proofs.cascade.high_of.Reads as high-of
 use Rattle.bitmap.proofs.cascade.low_of.Reads as low-of
 use Rattle.bitmap.proofs.sizes.child_of.Reads as child-of
 use Rattle.bitmap.proofs.sizes.words_of.Reads as words-of
 use Rattle.bitmap.proofs.word.change.Reads as change-word-of
-use Rattle.bitmap.proofs.word.next.Reads as next-of
+use Rattle.bitmap.proofs.word.mask.Reads as mask
 use Rattle.bitmap.proofs.word.with_bit.Reads as with-bit
-use Rattle.bitmap.proofs.contiguous.+dealloc_contiguous.{statement}
-use Rattle.bitmap.proofs.contiguous.+dealloc_contiguous.Tie.{close}
+use Rattle.bitmap.proofs.contiguous.+dealloc_contiguous+dealloc_contiguous_below.{statement}
+use Rattle.bitmap.proofs.contiguous.+dealloc_contiguous+dealloc_contiguous_below.Tie.{close}
 
 abbrev level : Measures 1 kinds.ps ℕ
-level κs a = a .0
+level κs a = 2 * a .0
+
+abbrev table-level : Measures 1 table-kinds.ps ℕ
+table-level κs a = 2 * a .0 + 1
 
 abbrev given : ℕ → In 1 kinds.ps
 given t = and 1 kinds.ps (is 1 kinds.ps level t) reads.Pre
@@ -39,8 +50,22 @@ given t = and 1 kinds.ps (is 1 kinds.ps level t) reads.Pre
 abbrev asked : ℕ → In 1 kinds.ps
 asked t = and 1 kinds.ps (falls 1 kinds.ps _<_ level t) reads.Pre
 
+abbrev table-given : ℕ → In 1 table-kinds.ps
+table-given t = and 1 table-kinds.ps (is 1 table-kinds.ps table-level t) table.Pre
+
+abbrev table-asked : ℕ → In 1 table-kinds.ps
+table-asked t = and 1 table-kinds.ps (falls 1 table-kinds.ps _<_ table-level t) table.Pre
+
+-- what both ensure
+abbrev Gave : ℕ → List ℕ → ℕ → ℕ → Bool → List ℕ → Type 0
+Gave k s a b r ys = (r ≡ leb b (firstLeaf k s a b)) × (ys ≡ giveBack k s a b)
+
+-- what each of the two calls
 abbrev claims : ℕ → lts.Claims
-claims t = (next-of.Asked, next-of.Learnt, change-word-of.Asked, change-word-of.Learnt, words-of.Asked, words-of.Learnt, child-of.Asked, child-of.Learnt, low-of.Asked, low-of.Learnt, high-of.Asked, high-of.Learnt, asked t, reads.Post, with-bit.Asked, with-bit.Learnt)
+claims t = (mask.Asked, mask.Learnt, change-word-of.Asked, change-word-of.Learnt, words-of.Asked, words-of.Learnt, child-of.Asked, child-of.Learnt, low-of.Asked, low-of.Learnt, high-of.Asked, high-of.Learnt, table-asked t, table.Post, with-bit.Asked, with-bit.Learnt)
+
+abbrev by-table : ℕ → table-lts.Claims
+by-table t = (asked t, reads.Post)
 
 abbrev Inv : lts.InvT-loop
 Inv k s₀ a b j size end w₀ ok₀ i₀ s w ok i = Walk k a b j end i₀ i × Upto j size s₀ (givenKids j s₀ a b) i₀ i s w × (ok ≡ taken? j s₀ a b i)
@@ -81,14 +106,31 @@ module _ (t : ℕ) where
       (rw (y .1) (λ v. turn-kept (h .1) at v (passed-kid (x .k - 1) (x .s .now) (x .a) (x .b) (n .before .loop .i) m)), y .2 ∙ y .0 .left ∙ sym (taken-less (h .0) (x .s .now) l m)))
       (c .if3 .came)
 
-pub +dealloc-contiguous-spec : {M : Type 1} → statement M
-+dealloc-contiguous-spec = close level λ t. lts.spec (claims t) (given t) reads.Post Inv μ
+  -- ---- the table hands its call on at the level of the arm
+
+  abbrev Entry : Type 0
+  Entry = table-lts.Start (by-table t) (table-given t) table.Post
+
+  asks : (c : Entry) {n : ℕ} → c .args .k ≡ n → (2 * n < t) × ((n ≤ 6) × (length (c .args .s .now) ≡ words n) × (c .args .a < c .args .b) × (c .args .b ≤ cap n))
+  asks c e = omega (arith, ap words e, ap cap e)
+
+  answers : (c : Entry) {n : ℕ} {r : Bool} {ys : List ℕ} → c .args .k ≡ n → Gave n (c .args .s .now) (c .args .a) (c .args .b) r ys
+      → Gave (c .args .k) (c .args .s .now) (c .args .a) (c .args .b) r ys
+  answers c e h = rw e h
+
+  last : (c : table-lts.At-match-rest (by-table t) (table-given t) table.Post) → c .before .before .args .k ≡ 5
+  last c = omega arith
+
+pub +dealloc-contiguous+dealloc-contiguous-below-spec : {M : Type 1} → statement M
++dealloc-contiguous+dealloc-contiguous-below-spec = close level table-level
+    (λ t. lts.spec (claims t) (given t) reads.Post Inv μ
     -- slice-read-w
     (λ c. omega (arith, words-pos (c .before .before .before .args .k)))
-    -- next-requires
-    (λ c κs. search needs)
+    -- mask-requires
+    (λ c κs. omega (arith, leaf-cap (c .before .if1 .taken)))
     -- returns
-    (λ c. let x = c .before .before .before .before .before in stay-word (x .args .s .now) (x .args .a) (x .args .b) (c .before .before .before .if1 .taken) (x .pre .1 .2) (x .pre .1 .3) (c .before .next .ensures) (c .if2 .taken))
+    (λ c. let x = c .before .before .before .before .before in
+    stay-word (x .args .s .now) (x .args .a) (x .args .b) (c .before .before .before .if1 .taken) (c .before .before .slice-known2 .given 0 .fits) (x .pre .1 .2) (x .pre .1 .3) (c .before .mask .ensures) (c .if2 .taken))
     -- change-requires
     (λ c κs. omega (arith, leaf-cap (c .before .before .before .if1 .taken)))
     -- slice-write-s
@@ -98,7 +140,7 @@ pub +dealloc-contiguous-spec : {M : Type 1} → statement M
     -- returns-2
     (λ c. let x = c .before .before .before .before .before .before in
     let z = c .before .before .before .before .if1 .taken in
-    let h = free-word (x .args .s .now) (x .args .a) (x .args .b) z (x .pre .1 .2) (x .pre .1 .3) (c .before .before .next .ensures) (c .before .if2 .left) in
+    let h = free-word (x .args .s .now) (x .args .a) (x .args .b) z (c .before .before .before .slice-known2 .given 0 .fits) (x .pre .1 .2) (x .pre .1 .3) (c .before .before .mask .ensures) (c .before .if2 .left) in
     (h .0, change-word Insert (x .args .s .now) (x .args .a) (x .args .b) _ z (x .pre .1 .1) (c .change .ensures) ∙ h .1))
     -- sub-j
     (λ c. search needs)
@@ -126,21 +168,22 @@ pub +dealloc-contiguous-spec : {M : Type 1} → statement M
     (λ c. omega (arith, part t c))
     -- add-to
     (λ c. omega (arith, part t c))
-    -- mul-dealloc-contiguous
+    -- mul-dealloc-contiguous-below
     (λ c. omega (arith, part t (c .before)))
-    -- sub-dealloc-contiguous
+    -- sub-dealloc-contiguous-below
     (λ c. search needs)
-    -- part-dealloc-contiguous-start
+    -- part-dealloc-contiguous-below-start
     (λ c. search needs)
-    -- part-dealloc-contiguous-end
+    -- part-dealloc-contiguous-below-end
     (λ c. part t (c .before) .ends)
     -- low-of-requires
     (λ c κs. omega (arith, part t (c .before .before)))
     -- high-of-requires
     (λ c κs. let n = c .before .before .before in omega (arith, part t n, walk-before (n .before .loop .inv .0) (n .loop-test .taken)))
-    -- dealloc-contiguous-requires
+    -- dealloc-contiguous-below-requires
     (λ c κs. let n = c .before .before .before .before in
-    (omega arith, walk-call (n .before .loop .inv .0) (n .loop-test .taken) (part t n) (c .before .low-of .ensures) (c .high-of .ensures)))
+    let call = walk-call (n .before .loop .inv .0) (n .loop-test .taken) (part t n) (c .before .low-of .ensures) (c .high-of .ensures) in
+    (omega arith, (omega arith, call .1, call .2, call .3)))
     -- mul-with-bit
     (λ c. omega (arith, part t (c .before)))
     -- slice-read-with-bit
@@ -163,4 +206,25 @@ pub +dealloc-contiguous-spec : {M : Type 1} → statement M
     (λ c. let x = c .before .before .before .before .before .before .before .before .args in
     let h = c .before .loop .inv in
     let l = c .loop-test .left in
-    (h .2 ∙ taken-all (h .0) (x .s .now) l, walk-finish (h .0) (h .1) l ∙ give-kids (x .k - 1) (x .s .now) (x .a) (x .b) (h .0 .level)))
+    (h .2 ∙ taken-all (h .0) (x .s .now) l, walk-finish (h .0) (h .1) l ∙ give-kids (x .k - 1) (x .s .now) (x .a) (x .b) (h .0 .level))))
+    λ t. table-lts.spec (by-table t) (table-given t) table.Post
+    -- dealloc-contiguous-requires, of each arm
+    (λ c κs. asks t (c .before .before .before) (c .before .match .keys1))
+    (λ c κs. asks t (c .before .before .before) (c .before .match .keys2))
+    (λ c κs. asks t (c .before .before .before) (c .before .match .keys3))
+    (λ c κs. asks t (c .before .before .before) (c .before .match .keys4))
+    (λ c κs. asks t (c .before .before .before) (c .before .match .keys5))
+    (λ c κs. asks t (c .before .before .before) (last t (c .before)))
+    -- same-length and returns, of each arm
+    (λ c. search needs)
+    (λ c. answers t (c .before .before .before .before .before .before) (c .before .before .before .before .match .keys1) (c .before .before .dealloc-contiguous .ensures))
+    (λ c. search needs)
+    (λ c. answers t (c .before .before .before .before .before .before) (c .before .before .before .before .match .keys2) (c .before .before .dealloc-contiguous2 .ensures))
+    (λ c. search needs)
+    (λ c. answers t (c .before .before .before .before .before .before) (c .before .before .before .before .match .keys3) (c .before .before .dealloc-contiguous3 .ensures))
+    (λ c. search needs)
+    (λ c. answers t (c .before .before .before .before .before .before) (c .before .before .before .before .match .keys4) (c .before .before .dealloc-contiguous4 .ensures))
+    (λ c. search needs)
+    (λ c. answers t (c .before .before .before .before .before .before) (c .before .before .before .before .match .keys5) (c .before .before .dealloc-contiguous5 .ensures))
+    (λ c. search needs)
+    (λ c. answers t (c .before .before .before .before .before .before) (last t (c .before .before .before .before)) (c .before .before .dealloc-contiguous6 .ensures))
