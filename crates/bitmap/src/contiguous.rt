@@ -127,21 +127,6 @@ pub fn end_at(k: usize, s: &[u16], a: usize, b: usize) -> usize
     }
 }
 
-// The same from base on, beside a position that was found free: where that is base itself, only the rest is looked up.
-pub fn rest_end(k: usize, s: &[u16], free: usize, base: usize, to: usize) -> usize
-    requires { ⌜ (k ≤ 6) × (length (now s) ≡ words k) × (base < to) × (to ≤ cap k) × (free? k (now s) free ≡ true) ⌝ }
-    ensures { λ r. ⌜ r ≡ firstFrom (λ p. not (free? k (now (s .entry)) p)) base (to - base) ⌝ }
-{
-    if free != base {
-        return end_at(k, s, base, to);
-    }
-    let next = base + 1;
-    if next == to {
-        return to;
-    }
-    end_at(k, s, next, to)
-}
-
 // The lowest aligned run, or the refusal.
 pub fn find_contiguous(k: usize, s: &[u16], size: usize, align_log2: usize) -> Taken
     requires { ⌜ (k ≤ 6) × (length (now s) ≡ words k) ⌝ }
@@ -156,20 +141,22 @@ pub fn find_contiguous(k: usize, s: &[u16], size: usize, align_log2: usize) -> T
     }
     let mut at = 0;
     while at < cap {
-        let free = cascade::next_node(k, s, at);
-        if cap <= free {
-            return Taken::No(Refusal::NoneFree);
-        }
-        let base = align_up_log2(free, align_log2);
+        let base = align_up_log2(at, align_log2);
         if cap - base < size {
             return Taken::No(Refusal::NoneFree);
         }
         let to = base + size;
-        let end = rest_end(k, s, free, base, to);
+        let end = end_at(k, s, base, to);
         if end == to {
             return Taken::At(base);
         }
         at = end + 1;
+        // With an alignment the next base is worth a try of its own, but not behind one that is not free.
+        if end == base || align_log2 == 0 {
+            if at < cap {
+                at = cascade::next_at(k, s, at);
+            }
+        }
     }
     Taken::No(Refusal::NoneFree)
 }

@@ -2,13 +2,12 @@
 -- one still may. The measure is what is left of the positions. Assumes nothing.
 use borrow.Author.Needs.{needs}
 use mathlib.Core.Path.{_≡_, sym, ap, _∙_}
-use mathlib.Core.Bool.{true, false}
+use mathlib.Core.Bool.{false}
 use Prim.Native.Nat.{ℕ, _+_, _-_, _%_, _^_, _≤_, _<_}
 use native.Mathlib.Omega.{arith}
 use lib.Pow.{pow-pos}
 use Rattle.bitmap.specs.Tree as tree
 use Rattle.bitmap.specs.Calls.{misfit}
-use Rattle.bitmap.proofs.Search.{first-is}
 use Rattle.bitmap.proofs.Runs as runs
 use Rattle.bitmap.proofs.RunCases as cases
 use Rattle.bitmap.proofs.contiguous.find_contiguous.Statement.{statement}
@@ -23,10 +22,14 @@ abbrev μ-loop : tie.MeasureT-loop
 misfits : (c : tie.After-misfits Inv-loop μ-loop) → misfit (tree.cap (c .before .before .before .args .k)) (c .before .before .before .args .align-log2) ≡ c .misfits .result
 misfits c = ap (λ (n : ℕ). misfit n (c .before .before .before .args .align-log2)) (sym (c .before .cap-of .ensures .0)) ∙ sym (c .misfits .ensures)
 
--- a turn: the next free position, and the next multiple from there
+-- a turn: the next multiple, and the first position from there that is not free
 module _ (c : tie.In-loop Inv-loop μ-loop) where
   abbrev entry : tie.Start Inv-loop μ-loop
   entry = c .before .before .before .before .before .before .before
+
+  -- no run stands below a position
+  abbrev sought : ℕ → Type 0
+  sought = runs.Sought (tree.free? (entry .args .k) (entry .args .s .now)) (tree.cap (entry .args .k)) (entry .args .size) (entry .args .align-log2)
 
   fits : misfit (tree.cap (entry .args .k)) (entry .args .align-log2) ≡ false
   fits = misfits (c .before .before .before .before) ∙ c .before .before .before .if1 .left
@@ -34,28 +37,24 @@ module _ (c : tie.In-loop Inv-loop μ-loop) where
   some : 0 < entry .args .size
   some = omega arith
 
-free : (c : tie.After-next-node Inv-loop μ-loop) → let a = entry (c .before) .args in
-    (c .before .before .loop .at ≤ c .next-node .result) × runs.Sought (tree.free? (a .k) (a .s .now)) (tree.cap (a .k)) (a .size) (a .align-log2) (c .next-node .result)
-free c = runs.sought-free (c .before .before .loop .inv) _ (some (c .before)) (c .next-node .ensures)
-
--- the position found is free
-found : (c : tie.Else3 Inv-loop μ-loop) → let a = entry (c .before .before) .args in tree.free? (a .k) (a .s .now) (c .before .next-node .result) ≡ true
-found c =
-    let a = entry (c .before .before) .args in
-    let at = c .before .before .before .loop .at in
-    let n = tree.cap (a .k) in
-    ap (tree.free? (a .k) (a .s .now)) (c .before .next-node .ensures)
-    ∙ first-is (tree.free? (a .k) (a .s .now)) at (n - at) n (omega arith) .here (omega arith)
-
-base : (c : tie.After-align-up-log2 Inv-loop μ-loop) → let a = entry (c .before .before .before) .args in
-    (c .before .before .next-node .result ≤ c .align-up-log2 .result) × runs.Sought (tree.free? (a .k) (a .s .now)) (tree.cap (a .k)) (a .size) (a .align-log2) (c .align-up-log2 .result)
+base : (c : tie.After-align-up-log2 Inv-loop μ-loop) → (c .before .before .loop .at ≤ c .align-up-log2 .result) × sought (c .before) (c .align-up-log2 .result)
 base c =
-    let a = entry (c .before .before .before) .args in
-    runs.sought-multiple (free (c .before .before) .1) _ (runs.cap-multiple (a .k) (a .align-log2) (cases.fits-align _ _ (fits (c .before .before .before)) .1)) (c .align-up-log2 .ensures)
+    let a = entry (c .before) .args in
+    runs.sought-multiple (c .before .before .loop .inv) _ (runs.cap-multiple (a .k) (a .align-log2) (cases.fits-align _ _ (fits (c .before)) .1)) (c .align-up-log2 .ensures)
 
-next : (c : tie.Else5 Inv-loop μ-loop) → let a = entry (c .before .before .before .before .before .before) .args in
-    (c .before .before .before .align-up-log2 .result ≤ c .before .rest-end .result) × runs.Sought (tree.free? (a .k) (a .s .now)) (tree.cap (a .k)) (a .size) (a .align-log2) (c .before .rest-end .result + 1)
-next c = runs.sought-next (base (c .before .before .before) .1) _ (omega (arith, base (c .before .before .before) .1 .upto)) (c .before .rest-end .ensures) (c .if5 .left)
+next : (c : tie.Else4 Inv-loop μ-loop) → let m = c .before .before .before in
+    (m .align-up-log2 .result ≤ c .before .end-at .result) × sought (m .before) (c .before .end-at .result + 1)
+next c = runs.sought-next (base (c .before .before .before) .1) _ (omega (arith, base (c .before .before .before) .1 .upto)) (c .before .end-at .ensures) (c .if4 .left)
+
+less : (c : tie.Else4 Inv-loop μ-loop) → c .before .before .before .before .before .loop .at < c .before .end-at .result + 1
+less c = omega (arith, base (c .before .before .before) .0, next c .0)
+
+-- behind a position that is not free, the next free one
+skip : (c : tie.After-next-at Inv-loop μ-loop) → let h = c .before .before .before in
+    (h .before .end-at .result + 1 ≤ c .next-at .result) × sought (h .before .before .before .before) (c .next-at .result)
+skip c =
+    let h = c .before .before .before in
+    runs.sought-free (next h .1) _ (some (h .before .before .before .before)) (c .next-at .ensures)
 
 cap-of-requires : tie.Need-cap-of-requires Inv-loop μ-loop
 cap-of-requires c κs = search needs
@@ -76,60 +75,65 @@ returns-2 c =
 loop-holds : tie.Need-loop-holds Inv-loop μ-loop
 loop-holds c = runs.sought-start _ _ _ _
 
-next-node-requires : tie.Need-next-node-requires Inv-loop μ-loop
-next-node-requires c κs = search needs
+align-up-log2-requires : tie.Need-align-up-log2-requires Inv-loop μ-loop
+align-up-log2-requires c κs =
+    let p = cases.fits-align _ _ (fits c) in
+    (p .0, omega arith)
+
+sub-if3 : tie.Need-sub-if3 Inv-loop μ-loop
+sub-if3 c = omega (arith, base c .1 .upto)
 
 returns-3 : tie.Need-returns-3 Inv-loop μ-loop
 returns-3 c =
     let n = c .before .before in
-    let a = entry n .args in
-    cases.any-none (a .size) (a .align-log2) (a .k) (a .s .now) (fits n) (n .before .before .if2 .left) (runs.sought-short (free (c .before) .1) (omega (arith, some n)))
-
-align-up-log2-requires : tie.Need-align-up-log2-requires Inv-loop μ-loop
-align-up-log2-requires c κs =
-    let p = cases.fits-align _ _ (fits (c .before .before)) in
-    (p .0, omega arith)
-
-sub-if4 : tie.Need-sub-if4 Inv-loop μ-loop
-sub-if4 c = omega (arith, base c .1 .upto)
-
-returns-4 : tie.Need-returns-4 Inv-loop μ-loop
-returns-4 c =
-    let n = c .before .before .before .before in
     let a = entry n .args in
     cases.any-none (a .size) (a .align-log2) (a .k) (a .s .now) (fits n) (n .before .before .if2 .left) (runs.sought-short (base (c .before) .1) (omega arith))
 
 add-to : tie.Need-add-to Inv-loop μ-loop
 add-to c = omega (arith, base (c .before) .1 .upto)
 
-rest-end-requires : tie.Need-rest-end-requires Inv-loop μ-loop
-rest-end-requires c κs =
-    let n = c .before .before .before .before in
-    let a = entry n .args in
+end-at-requires : tie.Need-end-at-requires Inv-loop μ-loop
+end-at-requires c κs =
+    let n = c .before .before in
     let upto = base (c .before) .1 .upto in
-    (omega arith, n .before .before .before .before .before .before .before .pre .1, omega (arith, some n), omega arith, found (c .before .before))
+    (omega arith, entry n .pre .1, omega (arith, some n), omega arith)
 
-returns-5 : tie.Need-returns-5 Inv-loop μ-loop
-returns-5 c =
+returns-4 : tie.Need-returns-4 Inv-loop μ-loop
+returns-4 c =
     let m = c .before .before .before in
-    let n = m .before .before .before in
+    let n = m .before in
     let a = entry n .args in
-    let multiple = ap (λ (x : ℕ). x % 2 ^ a .align-log2) (m .align-up-log2 .ensures) ∙ runs.up-multiple (2 ^ a .align-log2) (m .before .before .next-node .result) (pow-pos (a .align-log2)) in
+    let multiple = ap (λ (x : ℕ). x % 2 ^ a .align-log2) (m .align-up-log2 .ensures) ∙ runs.up-multiple (2 ^ a .align-log2) (n .before .loop .at) (pow-pos (a .align-log2)) in
     let upto = base m .1 .upto in
     cases.any-found (a .size) (a .align-log2) (a .k) (a .s .now) (fits n) (n .before .before .if2 .left) _
-    (runs.sought-here (base m .1) _ (some n) multiple (omega arith) (c .before .rest-end .ensures) (c .if5 .taken)) (omega (arith, some n))
+    (runs.sought-here (base m .1) _ (some n) multiple (omega arith) (c .before .end-at .ensures) (c .if4 .taken)) (omega (arith, some n))
 
 add-at : tie.Need-add-at Inv-loop μ-loop
 add-at c = omega (arith, next c .1 .upto)
 
+next-at-requires : tie.Need-next-at-requires Inv-loop μ-loop
+next-at-requires c κs = (omega arith, entry (c .before .before .before .before .before .before) .pre .1, omega arith)
+
 loop-less : tie.Need-loop-less Inv-loop μ-loop
-loop-less c = omega (arith, free (c .before .before .before .before .before) .0, base (c .before .before .before) .0, next c .0)
+loop-less c = omega (arith, less (c .before .before .before), skip c)
 
 loop-again : tie.Need-loop-again Inv-loop μ-loop
-loop-again c = next c .1
+loop-again c = skip c .1
 
-returns-6 : tie.Need-returns-6 Inv-loop μ-loop
-returns-6 c =
+loop-less-2 : tie.Need-loop-less-2 Inv-loop μ-loop
+loop-less-2 c = omega (arith, less (c .before .before))
+
+loop-again-2 : tie.Need-loop-again-2 Inv-loop μ-loop
+loop-again-2 c = next (c .before .before) .1
+
+loop-less-3 : tie.Need-loop-less-3 Inv-loop μ-loop
+loop-less-3 c = omega (arith, less (c .before .before))
+
+loop-again-3 : tie.Need-loop-again-3 Inv-loop μ-loop
+loop-again-3 c = next (c .before .before) .1
+
+returns-5 : tie.Need-returns-5 Inv-loop μ-loop
+returns-5 c =
     let a = c .before .before .before .before .before .before .before .args in
     cases.any-none (a .size) (a .align-log2) (a .k) (a .s .now) (misfits (c .before .before .before .before) ∙ c .before .before .before .if1 .left) (c .before .before .if2 .left) (runs.sought-short (c .before .loop .inv) (omega arith))
 
@@ -144,15 +148,18 @@ find-contiguous-spec =
     returns
     returns-2
     loop-holds
-    next-node-requires
-    returns-3
     align-up-log2-requires
-    sub-if4
-    returns-4
+    sub-if3
+    returns-3
     add-to
-    rest-end-requires
-    returns-5
+    end-at-requires
+    returns-4
     add-at
+    next-at-requires
     loop-less
     loop-again
-    returns-6)
+    loop-less-2
+    loop-again-2
+    loop-less-3
+    loop-again-3
+    returns-5)
