@@ -10,6 +10,7 @@ ghost use Rattle.asogeren.specs.Crossed.{crossed};
 mod crossing;
 
 use bitmap::Base;
+use bitmap::Changed;
 pub use crossing::Answer;
 
 // Takes the lowest free position.
@@ -80,7 +81,11 @@ pub extern "C" fn asogeren_insert(store: &mut [u16], start: usize, end: usize) -
     ensures { λ r. ⌜ r ≡ crossed (answer (rangeSays start end) (now (store .entry))) ⌝ }
     ensures { λ _. ⌜ now (store .exit) ≡ after (rangeAfter Insert start end) (now (store .entry)) ⌝ }
 {
-    crossing::from_changed(bitmap::insert(store, start, end))
+    // Matched in place, here and in remove: handed on as a value, the answer is copied.
+    match bitmap::insert(store, start, end) {
+        Changed::Done => crossing::of_value(0),
+        Changed::No(n) => crossing::of_refusal(n),
+    }
 }
 
 // Makes the positions from start up to end taken.
@@ -89,7 +94,10 @@ pub extern "C" fn asogeren_remove(store: &mut [u16], start: usize, end: usize) -
     ensures { λ r. ⌜ r ≡ crossed (answer (rangeSays start end) (now (store .entry))) ⌝ }
     ensures { λ _. ⌜ now (store .exit) ≡ after (rangeAfter Remove start end) (now (store .entry)) ⌝ }
 {
-    crossing::from_changed(bitmap::remove(store, start, end))
+    match bitmap::remove(store, start, end) {
+        Changed::Done => crossing::of_value(0),
+        Changed::No(n) => crossing::of_refusal(n),
+    }
 }
 
 // Whether no position is free: the first word is 0.
