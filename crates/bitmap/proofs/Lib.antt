@@ -9,6 +9,8 @@ pub mod Renewed
 pub mod Parts
 pub mod Turn
 pub mod Changes
+pub mod Fills
+pub mod Borders
 pub mod Path
 pub mod One
 pub mod Walk

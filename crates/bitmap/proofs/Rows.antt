@@ -2,9 +2,9 @@
 use mathlib.Core.Path.{_≡_, refl, sym, ap, ap₂, _∙_}
 use mathlib.Core.Bool.{Bool, true, cond}
 use mathlib.Core.List.{List, [], _∷_, _++_, append-assoc, append-nil}
-use Prim.Native.Nat.{ℕ, zero, suc, _+_, _*_, _<_, _≤_}
-use native.Mathlib.Nat.{add-assoc, zero-mul, suc-mul, mul-le-mul-right}
-use native.Mathlib.Numerals.{one-add}
+use Prim.Native.Nat.{ℕ, zero, suc, _+_, _-_, _*_, _<_, _≤_}
+use native.Mathlib.Nat.{add-assoc, add-zero, add-suc, zero-mul, suc-mul, mul-le-mul-right}
+use native.Mathlib.Numerals.{one-add, add-one}
 use native.Mathlib.Decide.{decLt, ℕ-discrete}
 use native.Mathlib.Omega.{arith}
 use lib.ListN.{length, take, drop, set, length-append, length-take, length-drop}
@@ -67,19 +67,18 @@ module _ (w : ℕ) (f : ℕ → List ℕ) where
         (take-at (f n) rest w (h n (omega arith)))
   ]
 
-  row-put : (n : ℕ) → ((i : ℕ) → i < n → length (f i) ≡ w) → (rest ys : List ℕ) (i : ℕ) → i < n
-      → take (i * w) (row f n ++ rest) ++ (ys ++ drop (i * w + w) (row f n ++ rest)) ≡ row (upd f i ys) n ++ rest
-  unfolding row
-  row-put zero h rest ys i l = absurd (omega arith)
-  row-put (suc n) h rest ys i l = elim (decLt i n) [
-    | yes lt ↦ let ne : n ≡ i → ⊥ = omega arith in
-        simp (append-assoc, upd-other f i ys n ne) (row-put n (λ j m. h j (omega arith)) (f n ++ rest) ys i lt)
-    | no ge ↦ let e : i ≡ n = omega arith in
-        let len : length (row f n) ≡ n * w = row-length n (λ j m. h j (omega arith)) in
-        let all : length (row f n ++ f n) ≡ n * w + w = length-append (row f n) (f n) ∙ ap₂ _+_ len (h n (omega arith)) in
-        rw (e, upd-same f n ys, drop-at (row f n ++ f n) rest (n * w + w) all, append-assoc (row f n) (f n) rest, take-at (row f n) (f n ++ rest) (n * w) len)
-        (rw append-assoc (ap (λ (l : List ℕ). l ++ (ys ++ rest)) (row-ext f (upd f n ys) n (λ j m. sym (upd-other f n ys j (omega arith))))))
-  ]
+-- a row of m + n is one of m, and one of n after it
+row-add : (f : ℕ → List ℕ) (m n : ℕ) → row f (m + n) ≡ row f m ++ row (λ i. f (m + i)) n
+unfolding row
+row-add f m zero = rw (add-zero, append-nil)
+row-add f m (suc n) = rw (add-suc, row-add f m n, append-assoc)
+
+module _ (w : ℕ) (f : ℕ → List ℕ) (m n : ℕ) (sized : (i : ℕ) → i < m → length (f i) ≡ w) where
+  take-row : take (m * w) (row f (m + n)) ≡ row f m
+  take-row = rw (row-add f m n) (take-at (row f m) (row (λ i. f (m + i)) n) (m * w) (row-length w f m sized))
+
+  drop-row : drop (m * w) (row f (m + n)) ≡ row (λ i. f (m + i)) n
+  drop-row = rw (row-add f m n) (drop-at (row f m) (row (λ i. f (m + i)) n) (m * w) (row-length w f m sized))
 
 -- what stands in the row of a list's own parts is the list
 row-parts : (w : ℕ) (l : List ℕ) (n : ℕ) → row (λ i. take w (drop (i * w) l)) n ≡ take (n * w) l
@@ -110,16 +109,36 @@ module _ (k w : ℕ) (f : ℕ → List ℕ) (sized : (i : ℕ) → i < 16 → le
   unfolding child node
   child-node i l = rw (one-add, ← append-nil (row f 16)) (row-cell (words k) f 16 sized [] i l)
 
-  -- a child's part replaced: that child is new, and the own word and the other children are as they were
+  -- the parts of d children from i on replaced: the own word and the other children are as they were
+  pub put-run : (g : ℕ → List ℕ) (i d : ℕ) → i + d ≤ 16 → ((q : ℕ) → q < 16 → (i ≤ q → i + d ≤ q) → f q ≡ g q)
+      → take (1 + i * words k) (node w f) ++ (row (λ q. g (i + q)) d ++ drop (1 + (i + d) * words k) (node w f)) ≡ node w g
+  unfolding node
+  put-run g i d l same = rw (one-add, one-add ((i + d) * words k)) (ap (λ (x : List ℕ). w ∷ x) (go (16 - (i + d)) (omega arith)))
+    where
+      go : (e : ℕ) → i + d + e ≡ 16 → take (i * words k) (row f 16) ++ (row (λ q. g (i + q)) d ++ drop ((i + d) * words k) (row f 16)) ≡ row g 16
+      go e q =
+          rw (← q) (rw (drop-row (words k) f (i + d) e (λ j m. sized j (omega arith)), row-add g (i + d) e, row-add g i d, append-assoc)
+          (rw (add-assoc, take-row (words k) f i (d + e) (λ j m. sized j (omega arith)))
+          (ap₂ (λ (x y : List ℕ). x ++ (row (λ q. g (i + q)) d ++ y)) (row-ext f g i (λ j m. same j (omega arith) (omega arith)))
+          (row-ext (λ j. f (i + d + j)) (λ j. g (i + d + j)) e (λ j m. same (i + d + j) (omega arith) (omega arith))))))
+
+  -- one child's
   pub put-node : (ys : List ℕ) (i : ℕ) → i < 16
       → take (1 + i * words k) (node w f) ++ (ys ++ drop (1 + i * words k + words k) (node w f)) ≡ node w (upd f i ys)
-  unfolding node
+  unfolding row
   put-node ys i l =
-      rw (add-assoc, one-add, one-add (i * words k + words k), ← append-nil (row f 16), ← append-nil (row (upd f i ys) 16)) (ap (λ (x : List ℕ). w ∷ x) (row-put (words k) f 16 sized [] ys i l))
+      let part : upd f i ys (i + 0) ≡ ys = rw (add-zero, upd-same f i ys) in
+      let ends : 1 + (i + 1) * words k ≡ 1 + i * words k + words k = rw (add-one, suc-mul) (omega arith) in
+      ap₂ (λ (x : List ℕ) (n : ℕ). take (1 + i * words k) (node w f) ++ (x ++ drop n (node w f))) (sym part) (sym ends)
+      ∙ put-run (upd f i ys) i 1 (omega arith) (λ q m h. sym (upd-other f i ys q (λ e. omega (arith, h (omega arith)))))
 
--- a part ends within the row
+-- a part ends before a later one starts
+pub part-before : (i m w : ℕ) → i < m → i * w + w ≤ m * w
+part-before i m w l = rw suc-mul at (mul-le-mul-right w l)
+
+-- it ends within the row
 pub part-within : (i w : ℕ) → i < 16 → i * w + w ≤ 16 * w
-part-within i w l = rw suc-mul at (mul-le-mul-right w l)
+part-within i w l = part-before i 16 w l
 
 module _ (k : ℕ) (s : List ℕ) (len : length s ≡ words (suc k)) where
   pub split-node : s ≡ node (own s) (child k s)

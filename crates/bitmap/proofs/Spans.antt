@@ -66,6 +66,13 @@ within-more a n i h = elim (ℕ-discrete i n) [
   | no ne ↦ rw (ne-eqb i n ne) (within-iff a n i a (n + 1) i (omega arith) (omega arith))
 ]
 
+-- the same outside of the numbers from n up to m
+pub within-run : (a n m i : ℕ) → n ≤ m → (n ≤ i → m ≤ i) → within a n i ≡ within a m i
+within-run a n m i l out = elim (decLe n i) [
+  | yes u ↦ let v = out u in within-no a n i (omega arith) ∙ sym (within-no a m i (omega arith))
+  | no u ↦ within-iff a n i a m i (omega arith) (omega arith)
+]
+
 -- ---- in a map whose children have c positions each, the positions from a up to b stand in the children a / c up to (b - 1) / c
 
 module _ (c : ℕ) (pos : 0 < c) where
@@ -117,6 +124,11 @@ module _ (c : ℕ) (pos : 0 < c) where
 pub high-le : (c b i : ℕ) → high c b i ≤ c
 unfolding high
 high-le c b i = omega arith
+
+-- of a child within the range it has all
+pub whole-part : (c a b i : ℕ) → a ≤ i * c → i * c + c ≤ b → (low c a i ≡ 0) × (high c b i ≡ c)
+unfolding low high
+whole-part c a b i l m = (omega arith, omega arith)
 
 -- ---- a search in the range from a up to b: in a child that has some of it, and before which there is nothing, it is the search of
 -- the child's part, where f tests the map's positions and g those of child i

@@ -17,7 +17,7 @@ use Rattle.bitmap.specs.Bits.{bit, digit, wordOf, within}
 use Rattle.bitmap.specs.Change.{changeWord}
 use Rattle.bitmap.specs.Take.{lowestBit}
 use Rattle.bitmap.proofs.Search.{First, sort, first-is, first-ext, first-skip, and-both}
-use Rattle.bitmap.proofs.Bits.{digit-at, bit-of-zero, bit-pack, pack-lt, is-pack, no-bits, mask-bit, pow-bit, not-bit, and-bit, or-bit}
+use Rattle.bitmap.proofs.Bits.{digit-at, bit-of-zero, bit-pack, pack-ext, pack-lt, is-pack, no-bits, mask-bit, pow-bit, not-bit, and-bit, or-bit}
 
 -- ---- shifts and masks
 
@@ -89,6 +89,12 @@ module _ (w : ℕ) (f : ℕ → Bool) (h : w < 2 ^ 16) where
 
   pub remove-is : bitAnd w ((2 ^ 16 - 1) - wordOf f) ≡ wordOf (λ i. cond (f i) false (bit w i))
   remove-is = but-word w (wordOf f) f h (pack-lt 16 f) (bit-pack 16 f)
+
+-- bits replaced in a word that is known by its bits
+pub replace-is : (at : ℕ → Bool) (x : Bool) (f : ℕ → Bool) {w : ℕ} → w ≡ wordOf f → wordOf (λ i. cond (at i) x (bit w i)) ≡ wordOf (λ i. cond (at i) x (f i))
+replace-is at x f {w} e =
+    pack-ext 16 (λ i. cond (at i) x (bit w i)) (λ i. cond (at i) x (f i))
+    (λ i l. ap (cond (at i) x) (ap (λ (n : ℕ). bit n i) e ∙ bit-pack 16 f i l))
 
 -- ---- bits tested by a mask
 

@@ -2,10 +2,10 @@
 ghost use mathlib.Core.Path.{_≡_};
 ghost use mathlib.Core.Bool.{cond};
 ghost use lib.Dec.{eqb};
-ghost use Prim.Native.Nat.{_-_, _≤_, _<_};
+ghost use Prim.Native.Nat.{_+_, _-_, _≤_, _<_};
 ghost use Rattle.bitmap.specs.Search.{firstFrom};
 ghost use Rattle.bitmap.specs.Bits.{bit, wordOf, within};
-ghost use Rattle.bitmap.specs.Change.{changeWord};
+ghost use Rattle.bitmap.specs.Change.{frees, changeWord};
 ghost use Rattle.bitmap.specs.Take.{lowestBit};
 use crate::cascade::Change;
 
@@ -42,6 +42,18 @@ pub fn change(c: Change, w: u16, start: usize, end: usize) -> u16
         Change::Insert => w | mask(start, end),
         Change::Remove => w & !mask(start, end),
     }
+}
+
+// The word with bit first as given, the bits after it up to last set, or cleared, and bit last as given.
+pub fn change_borders(c: Change, w: u16, first: usize, last: usize, low: bool, high: bool) -> u16
+    requires { ⌜ (first < last) × (last < 16) ⌝ }
+    ensures { λ r. ⌜ r ≡ wordOf (λ i. cond (eqb i last) high (cond (within (first + 1) last i) (frees c) (cond (eqb i first) low (bit w i)))) ⌝ }
+{
+    with_bit(
+        change(c, with_bit(w, first, low), first + 1, last),
+        last,
+        high,
+    )
 }
 
 // The first set bit from key on; 16 or more where there is none.
