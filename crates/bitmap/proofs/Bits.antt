@@ -1,6 +1,6 @@
 -- A word is its bits, and each operation acts on them one by one. Assumes nothing.
 use mathlib.Core.Path.{_≡_, refl, sym, ap, ap₂, _∙_}
-use mathlib.Core.Bool.{Bool, true, false, not, _&&_, _||_, and-false, true≢false}
+use mathlib.Core.Bool.{Bool, true, false, cond, not, _&&_, _||_, and-false, true≢false}
 use Prim.Native.Nat.{ℕ, zero, suc, _+_, _-_, _*_, _/_, _%_, _^_, _<_, min, max}
 use native.Mathlib.Nat.{div-one, zero-div}
 use native.Mathlib.Numerals.{one-add}
@@ -9,8 +9,8 @@ use native.Mathlib.Omega.{arith}
 use lib.Pow.{shr-shr, pow-pos}
 use lib.Bits.{bitAnd, bitOr, and-step, or-step}
 use lib.Dec.{eqb, leb·zero, leb·suc-zero, leb·suc-suc, eqb·zero-suc, eqb·suc-zero, eqb·suc-suc}
-use borrow.Author.Tests.{ne-eqb}
-use Rattle.bitmap.specs.Bits.{bit, digit, pack, within}
+use borrow.Author.Tests.{eq-eqb, ne-eqb}
+use Rattle.bitmap.specs.Bits.{bit, digit, pack, wordOf, within}
 use Rattle.bitmap.specs.Tree.{some}
 
 -- ---- the lowest bit of a number is its lowest digit, and its other bits are those of its half
@@ -101,6 +101,21 @@ some-bit w i h = elim (ℕ-discrete w 0) [
   | yes e ↦ absurd (true≢false (sym h ∙ ap (λ (n : ℕ). bit n i) e ∙ bit-of-zero i))
   | no ne ↦ rw (ne-eqb w 0 ne)
 ]
+
+-- ---- one bit stored
+
+-- the bit is the one stored
+pub stored-bit : (w i : ℕ) (b : Bool) → i < 16 → bit (wordOf (λ j. cond (eqb j i) b (bit w j))) i ≡ b
+stored-bit w i b l = bit-pack 16 (λ j. cond (eqb j i) b (bit w j)) i l ∙ rw (eq-eqb i i refl)
+
+-- a bit stored as it was changes nothing
+pub stored-same : (w i : ℕ) (b : Bool) → w < 2 ^ 16 → bit w i ≡ b → wordOf (λ j. cond (eqb j i) b (bit w j)) ≡ w
+stored-same w i b h e =
+    pack-ext 16 (λ j. cond (eqb j i) b (bit w j)) (bit w) (λ j _. elim (ℕ-discrete j i) [
+      | yes q ↦ rw (eq-eqb j i q, q) (sym e)
+      | no ne ↦ rw (ne-eqb j i ne)
+    ])
+    ∙ pack-bit 16 w h
 
 -- ---- masks
 

@@ -1,16 +1,11 @@
 -- The position that the lowest set bits lead to, by the map's own word and the child that its lowest bit names. Assumes nothing.
-use mathlib.Core.Path.{_≡_, sym}
-use mathlib.Core.Bool.{cond}
+use mathlib.Core.Path.{_≡_}
 use mathlib.Core.List.{List}
-use Prim.Native.Nat.{ℕ, zero, suc, _+_, _*_, _/_, _%_, _<_, _≤_}
+use Prim.Native.Nat.{ℕ, zero, suc, _+_, _*_, _<_, _≤_}
 use native.Mathlib.Omega.{arith}
-use lib.Arith.{digits-div, digits-mod}
-use lib.Dec.{ltb}
 use borrow.Author.Tests.{lt-ltb, le-ltb}
-use Rattle.bitmap.specs.declared.cascade.Change.the-variants.{Remove}
 use Rattle.bitmap.specs.Bits.{bit}
 use Rattle.bitmap.specs.Tree.{cap, own, child}
-use Rattle.bitmap.specs.Change.{change}
 use Rattle.bitmap.specs.Take.{lowestBit, lowest}
 use Rattle.bitmap.proofs.Search.{first-is}
 
@@ -34,16 +29,3 @@ module _ {k j : ℕ} (s : List ℕ) (i q : ℕ) (up : suc j ≡ k) (ei : i ≡ l
   pub lowest-found : q < cap j → lowest k s ≡ i * cap j + q
   unfolding lowest
   lowest-found h = rw (← up, ← ei, lt-ltb i 16 at, ← eq, lt-ltb q (cap j) h)
-
--- position q of child i, by the map's position
-pub found-at : {p i q c : ℕ} → p ≡ i * c + q → q < c → (i ≡ p / c) × (q ≡ p % c)
-found-at {i = i} e l = rw e (sym (digits-div i l), sym (digits-mod i l))
-
--- ---- the words after a take that answers r
-
-module _ (k : ℕ) (s : List ℕ) {r : ℕ} {ys : List ℕ} where
-  pub words-past : r ≡ cap k → ys ≡ s → ys ≡ cond (ltb r (cap k)) (change Remove k s r (r + 1)) s
-  words-past h e = rw (le-ltb r (cap k) (omega arith)) e
-
-  pub words-found : r < cap k → ys ≡ change Remove k s r (r + 1) → ys ≡ cond (ltb r (cap k)) (change Remove k s r (r + 1)) s
-  words-found h e = rw (lt-ltb r (cap k) h) e

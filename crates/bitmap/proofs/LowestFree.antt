@@ -56,6 +56,23 @@ node-first k s i e l m =
     from-zero : (j : ℕ) (c : List ℕ) → nextIn (free? j c) (cap j) 0 ≡ firstFree j c
     from-zero j c = ap (firstFrom (free? j c) 0) (sub-zero (cap j))
 
+-- where the lowest set bits lead to a position it is the lowest free one
+pub lowest-first : (k : ℕ) (s : List ℕ) → lowest k s < cap k → lowest k s ≡ firstFree k s
+unfolding lowest free? cap
+lowest-first zero s m = first-ext (bit (own s)) (free? zero s) 0 16 (λ q l u. refl)
+lowest-first (suc k) s m =
+    let i = lowestBit (own s) in
+    let q = lowest k (child k s i) in
+    elim (decLt i 16) [
+      | yes l ↦ elim (decLt q (cap k)) [
+        | yes n ↦
+            let e = lowest-first k (child k s i) n in
+            rw (lt-ltb i 16 l, lt-ltb q (cap k) n, e) (sym (node-first k s i refl l (rw (← e) n)))
+        | no n ↦ absurd (omega (arith, rw (lt-ltb i 16 l, le-ltb q (cap k) (omega arith)) at m))
+      ]
+      | no l ↦ absurd (omega (arith, rw (le-ltb i 16 (omega arith)) at m))
+    ]
+
 -- the lowest set bits of a true map lead to it
 pub lowest-free : (k : ℕ) (s : List ℕ) → true? k s ≡ true → Fits s → lowest k s ≡ firstFree k s
 unfolding lowest free? cap

@@ -1,26 +1,21 @@
 -- A change of one position: a bit of a leaf word is stored, or a child's part has come back and then the child's bit is stored.
 -- Assumes nothing.
-use mathlib.Core.Path.{_≡_, sym, ap, _∙_}
-use mathlib.Core.Bool.{Bool, true, cond}
+use mathlib.Core.Path.{_≡_, refl, sym, ap, _∙_}
+use mathlib.Core.Bool.{Bool, cond}
 use mathlib.Core.List.{List}
-use Prim.Native.Nat.{ℕ, suc, _+_, _*_, _/_, _%_, _^_, _<_}
-use native.Mathlib.Nat.{mod-lt}
-use native.Mathlib.Omega.{arith}
-use lib.ListN.{length, set, getD}
+use Prim.Native.Nat.{ℕ, suc, _+_, _/_, _%_, _<_}
+use lib.ListN.{length, set}
 use lib.Dec.{eqb}
 use Rattle.bitmap.specs.declared.cascade.Change.{Change}
-use Rattle.bitmap.specs.declared.cascade.Change.the-variants.{Insert}
 use Rattle.bitmap.specs.Bits.{bit, wordOf, within}
-use Rattle.bitmap.specs.Tree.{words, cap, own, child, some}
+use Rattle.bitmap.specs.Tree.{words, cap, own, child, some, replaced, marked, renew}
 use Rattle.bitmap.specs.Change.{frees, changeWord, change}
 use Rattle.bitmap.proofs.Bits.{pack-ext}
-use Rattle.bitmap.proofs.Levels.{cap-pos}
-use Rattle.bitmap.proofs.Rows.{length-child}
+use Rattle.bitmap.proofs.Rows.{upd, set-node, node-ext}
+use Rattle.bitmap.proofs.Renewed.{cond-ext, replaced-in}
 use Rattle.bitmap.proofs.Spans.{within-one}
-use Rattle.bitmap.proofs.Parts.{back, own-back}
-use Rattle.bitmap.proofs.Turn.{start, turn, finish}
-use Rattle.bitmap.proofs.Changes.{length-change, change-leaf, change-one, inserted}
-use Rattle.bitmap.proofs.Path.{Entered}
+use Rattle.bitmap.proofs.Parts.{back, back-node}
+use Rattle.bitmap.proofs.Changes.{change-leaf, change-one}
 
 -- one bit of a word
 word-one : (c : Change) (w p : ℕ) → wordOf (λ m. cond (eqb m p) (frees c) (bit w m)) ≡ changeWord c w p (p + 1)
@@ -29,30 +24,22 @@ word-one c w p =
     (λ m l. ap (λ (b : Bool). cond b (frees c) (bit w m)) (sym (within-one p m)))
 
 -- a leaf word with that bit stored
-pub leaf-one : (c : Change) (s : List ℕ) (p : ℕ) {k v : ℕ} → k ≡ 0 → length s ≡ words k
-    → v ≡ wordOf (λ m. cond (eqb m p) (frees c) (bit (own s) m)) → set s 0 v ≡ change c k s p (p + 1)
-unfolding words
-leaf-one c s p {k} {v} e len ev =
-    change-leaf c s p (p + 1) v (len ∙ ap words e) (ev ∙ word-one c (own s) p) ∙ ap (λ (x : ℕ). change c x s p (p + 1)) (sym e)
+pub leaf-one : (c : Change) (s : List ℕ) (p v : ℕ) → length s ≡ 1 → v ≡ wordOf (λ m. cond (eqb m p) (frees c) (bit (own s) m))
+    → set s 0 v ≡ change c 0 s p (p + 1)
+leaf-one c s p v len ev = change-leaf c s p (p + 1) v len (ev ∙ word-one c (own s) p)
 
-module _ {j : ℕ} {s : List ℕ} {i n : ℕ} (h : Entered j s i n) (fits : own s < 2 ^ 16)
-    {k : ℕ} (p : ℕ) {r : ℕ} (up : suc j ≡ k) (ei : i ≡ p / cap j) (er : r ≡ p % cap j) where
-  -- a map whose child i has come back with position r changed, with that child's bit stored
-  pub node-one : (c : Change) (ys : List ℕ) (v : ℕ) → ys ≡ change c j (child j s i) r (r + 1)
-      → v ≡ wordOf (λ m. cond (eqb m i) (some (getD (back n s i ys) (1 + i * n) 0)) (bit (own s) m))
-      → set (back n s i ys) 0 v ≡ change c k s p (p + 1)
-  node-one c ys v ey ev =
-      let kid = change c j (child j s i) r (r + 1) in
-      let sized = length-change c j (child j s i) r (r + 1) (length-child j s (h .len) i (h .at)) in
-      finish (turn (start j n s (λ _. kid) i (h .size) (h .len) fits (λ m l. sized)) (h .at) ys v ey ev)
-      ∙ change-one c j s p i r ei er ∙ ap (λ (x : ℕ). change c x s p (p + 1)) up
-
-  -- where the position was made free the child's bit is set
-  pub node-inserted : (ys : List ℕ) (v : ℕ) → ys ≡ change Insert j (child j s i) r (r + 1)
-      → v ≡ wordOf (λ m. cond (eqb m i) true (bit (own s) m)) → set (back n s i ys) 0 v ≡ change Insert k s p (p + 1)
-  node-inserted ys v ey ev =
-      let sized : length ys ≡ words j = ap length ey ∙ length-change Insert j (child j s i) r (r + 1) (length-child j s (h .len) i (h .at)) in
-      let small : r < cap j = rw er (mod-lt p (cap-pos j)) in
-      let on : some (getD (back n s i ys) (1 + i * n) 0) ≡ true =
-      ap some (own-back j s i n (h .size) ys (h .len) (h .at) sized ∙ ap own ey) ∙ inserted j (child j s i) r (r + 1) (omega arith) (omega arith) in
-      node-one Insert ys v ey (ev ∙ ap (λ (b : Bool). wordOf (λ m. cond (eqb m i) b (bit (own s) m))) (sym on))
+-- a map whose child i has come back with position r changed, with that child's bit stored
+pub node-one : (c : Change) (j : ℕ) (s : List ℕ) (p i r v : ℕ) → length s ≡ words (suc j) → i < 16 → i ≡ p / cap j → r ≡ p % cap j
+    → v ≡ wordOf (λ m. cond (eqb m i) (some (own (change c j (child j s i) r (r + 1)))) (bit (own s) m))
+    → set (back (words j) s i (change c j (child j s i) r (r + 1))) 0 v ≡ change c (suc j) s p (p + 1)
+unfolding renew marked replaced upd
+node-one c j s p i r v len l ei er ev =
+    let kid = change c j (child j s i) r (r + 1) in
+    let at = within i (i + 1) in
+    ap (λ (x : List ℕ). set x 0 v) (back-node j s i (words j) refl kid len l)
+    ∙ set-node (own s) v (upd (child j s) i kid)
+    ∙ node-ext
+    (ev ∙ pack-ext 16 (λ m. cond (eqb m i) (some (own kid)) (bit (own s) m)) (λ m. cond (at m) (some (own (replaced j at (λ _. kid) s m))) (bit (own s) m))
+    (λ m _. cond-ext (sym (within-one i m)) (λ t. ap (λ (x : List ℕ). some (own x)) (sym (replaced-in j at (λ _. kid) s m (within-one i m ∙ t)))) refl))
+    (λ m _. ap (λ (b : Bool). cond b kid (child j s m)) (sym (within-one i m)))
+    ∙ change-one c j s p i r ei er

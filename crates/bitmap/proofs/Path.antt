@@ -6,12 +6,10 @@ use Prim.Native.Nat.{ℕ, suc, _+_, _-_, _*_, _/_, _%_, _<_, _≤_}
 use native.Mathlib.Nat.{div-lt-iff-lt-mul}
 use native.Mathlib.Omega.{arith}
 use lib.ListN.{length}
-use borrow.Rule.Slice.PartMut.{put-same}
-use Rattle.bitmap.specs.Bits.{bit}
-use Rattle.bitmap.specs.Tree.{words, cap, own, child, leaf?}
+use Rattle.bitmap.specs.Tree.{words, cap, child, leaf?}
 use Rattle.bitmap.proofs.Levels.{words-node, cap-node, cap-pos, words-small}
 use Rattle.bitmap.proofs.Rows.{part-within, length-child}
-use Rattle.bitmap.proofs.Parts.{lent, back, lent-child}
+use Rattle.bitmap.proofs.Parts.{lent, lent-child}
 
 -- the level below
 pub level-below : {k : ℕ} → (k ≡ 0 → ⊥) → suc (k - 1) ≡ k
@@ -45,21 +43,13 @@ module _ {j : ℕ} {s : List ℕ} {i n : ℕ} (h : Entered j s i n) where
   pub entered-length : length (lent n s i) ≡ words j
   entered-length = ap length entered-part ∙ length-child j s (h .len) i (h .at)
 
-  -- what comes back as it was lent changes nothing
-  pub entered-same : {ys : List ℕ} → ys ≡ lent n s i → back n s i ys ≡ s
-  entered-same e = ap (back n s i) e ∙ put-same (1 + i * n) (1 + i * n + n - (1 + i * n)) s
-
 -- ---- a position
 
 -- it is in one of the 16 children
 pub position-child : {k j : ℕ} (p : ℕ) → suc j ≡ k → p < cap k → p / cap j < 16
 position-child {k} {j} p up l = div-lt-iff-lt-mul (cap-pos j) .1 (omega (arith, cap-node j, ap cap up))
 
--- its leaf bit, in a leaf word and in a child
-pub leaf-word : {k : ℕ} (s : List ℕ) (p : ℕ) → k ≡ 0 → leaf? k s p ≡ bit (own s) p
-unfolding leaf?
-leaf-word s p e = rw e
-
+-- its leaf bit is that in the child
 pub leaf-child : {k j : ℕ} (s : List ℕ) (p : ℕ) → suc j ≡ k → leaf? k s p ≡ leaf? j (child j s (p / cap j)) (p % cap j)
 unfolding leaf?
 leaf-child s p up = rw (← up)

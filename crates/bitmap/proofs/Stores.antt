@@ -51,3 +51,15 @@ module _ (s : List ℕ) (k : ℕ) (is : (k ≡ levelOf (length s)) × (k ≤ 7))
       pub given-at : (v : ℕ) (t : List ℕ) → given v ≡ f k s → t ≡ made k s v
           → (given v ≡ answer f s) × (t ≡ after (λ k s. settle (f k s) s (made k s)) s)
       given-at v t e h = (e ∙ answer-at f, h ∙ settle-on (f k s) v s (made k s) e ∙ after-at (λ k s. settle (f k s) s (made k s)))
+
+-- the same, where the level was found to be k
+module _ (s : List ℕ) {j : ℕ} (is : (j ≡ levelOf (length s)) × (j ≤ 7)) (ne : j ≡ 7 → ⊥) (k : ℕ) (e : j ≡ k) where
+  pub map-fits : (k ≤ 6) × (length s ≡ words k)
+  map-fits = (omega arith, rw e at (sized s j is ne))
+
+  pub map-answer : (f : ℕ → List ℕ → Said) → f k s ≡ answer f s
+  map-answer f = rw e at (answer-at s j is ne f)
+
+  pub map-call : {x : Said} {ys : List ℕ} (f : ℕ → List ℕ → Said) (g : ℕ → List ℕ → List ℕ)
+      → (x ≡ f k s) × (ys ≡ g k s) → (x ≡ answer f s) × (ys ≡ after g s)
+  map-call f g h = (h .0 ∙ map-answer f, h .1 ∙ rw e at (after-at s j is ne g))

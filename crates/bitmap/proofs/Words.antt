@@ -1,14 +1,15 @@
--- What the machine forms compute: shifts, masks, bits set, cleared and tested, and a count of zeros. Assumes nothing.
+-- What the machine forms compute: shifts, masks, bits set, cleared and tested, a count of zeros, and one less. Assumes nothing.
 use mathlib.Core.Path.{_≡_, refl, sym, ap, _∙_}
-use mathlib.Core.Bool.{Bool, true, false, cond, not, _&&_, _||_, and-false, true≢false}
+use mathlib.Core.Bool.{Bool, true, false, cond, not, _&&_, _||_, and-false, and-self, true≢false}
 use mathlib.Core.Logic.{⊎-elim}
 use Prim.Native.Nat.{ℕ, zero, suc, _+_, _-_, _*_, _/_, _%_, _^_, _≤_, _<_}
-use native.Mathlib.Nat.{one-mul, mod-eq-of-lt, lt-of-le-of-lt, div-mul-le-self, div-one, zero-add, add-zero, suc-add, add-suc}
+use native.Mathlib.Nat.{one-mul, mod-eq-of-lt, lt-of-le-of-lt, lt-of-lt-of-le, div-mul-le-self, div-one, zero-add, add-zero, suc-add, add-suc}
+use native.Mathlib.Decide.{ℕ-discrete}
 use native.Mathlib.Numerals.{add-one}
 use native.Mathlib.Omega.{arith}
 use lib.Pow.{pow-mono, pow-lt, pow-pos, shr-shr}
-use lib.Bits.{bitAnd, bitOr, and-lt, or-lt, and-mask}
-use lib.Dec.{eqb, leb·zero}
+use lib.Bits.{bitAnd, bitOr, and-lt, and-le-l, or-lt, and-mask}
+use lib.Dec.{eqb, leb·zero, eqb·zero-suc, eqb·suc-zero, eqb·suc-suc}
 use lib.Count.{trailingZeros, under}
 use borrow.Author.Tests.{lt-ltb, le-ltb, ltb-true, le-leb, leb-true}
 use Rattle.bitmap.specs.declared.cascade.Change.the-variants.{Remove}
@@ -17,7 +18,7 @@ use Rattle.bitmap.specs.Bits.{bit, digit, wordOf, within}
 use Rattle.bitmap.specs.Change.{changeWord}
 use Rattle.bitmap.specs.Take.{lowestBit}
 use Rattle.bitmap.proofs.Search.{First, sort, first-is, first-ext, first-skip, and-both}
-use Rattle.bitmap.proofs.Bits.{digit-at, bit-of-zero, bit-pack, pack-ext, pack-lt, is-pack, no-bits, mask-bit, pow-bit, not-bit, and-bit, or-bit}
+use Rattle.bitmap.proofs.Bits.{low-is, digit-at, bit-up, half-is, bit-of-zero, bit-pack, pack-ext, pack-lt, is-pack, no-bits, mask-bit, pow-bit, not-bit, and-bit, or-bit}
 
 -- ---- shifts and masks
 
@@ -62,25 +63,25 @@ but-cond true false = refl
 but-cond false true = refl
 but-cond false false = refl
 
--- `w | v` and `w & !v`, where v has the bits f
+-- `w | v`, and `w & !v` at n bits, where v has the bits f
 module _ (w v : ℕ) (f : ℕ → Bool) (hw : w < 2 ^ 16) (hv : v < 2 ^ 16) (e : (i : ℕ) → i < 16 → bit v i ≡ f i) where
   pub or-word : bitOr w v ≡ wordOf (λ i. cond (f i) true (bit w i))
   or-word =
       is-pack 16 (bitOr w v) (λ i. cond (f i) true (bit w i)) (or-lt 16 w v hw hv)
       (λ i l. or-bit w v i ∙ ap (λ (b : Bool). bit w i || b) (e i l) ∙ or-cond (bit w i) (f i))
 
-  pub but-word : bitAnd w ((2 ^ 16 - 1) - v) ≡ wordOf (λ i. cond (f i) false (bit w i))
-  but-word =
-      is-pack 16 (bitAnd w ((2 ^ 16 - 1) - v)) (λ i. cond (f i) false (bit w i)) (and-lt 16 w ((2 ^ 16 - 1) - v) hw (omega arith))
-      (λ i l. and-bit w ((2 ^ 16 - 1) - v) i ∙ ap (λ (b : Bool). bit w i && b) (not-bit 16 v i hv l ∙ ap not (e i l)) ∙ but-cond (bit w i) (f i))
+  pub but-word : (n : ℕ) → 16 ≤ n → bitAnd w ((2 ^ n - 1) - v) ≡ wordOf (λ i. cond (f i) false (bit w i))
+  but-word n h =
+      is-pack 16 (bitAnd w ((2 ^ n - 1) - v)) (λ i. cond (f i) false (bit w i)) (lt-of-le-of-lt (and-le-l w _) hw)
+      (λ i l. and-bit w ((2 ^ n - 1) - v) i ∙ ap (λ (b : Bool). bit w i && b) (not-bit n v i (lt-of-lt-of-le hv (pow-mono h)) (omega arith) ∙ ap not (e i l)) ∙ but-cond (bit w i) (f i))
 
 -- one bit set, and cleared
 module _ (w i : ℕ) (h : w < 2 ^ 16) (l : i < 16) where
   pub set-is : bitOr w (2 ^ i) ≡ wordOf (λ j. cond (eqb j i) true (bit w j))
   set-is = or-word w (2 ^ i) (λ j. eqb j i) h (pow-lt l) (λ j u. pow-bit i j)
 
-  pub clear-is : bitAnd w ((2 ^ 16 - 1) - 2 ^ i) ≡ wordOf (λ j. cond (eqb j i) false (bit w j))
-  clear-is = but-word w (2 ^ i) (λ j. eqb j i) h (pow-lt l) (λ j u. pow-bit i j)
+  pub clear-is : bitAnd w ((2 ^ 32 - 1) - 2 ^ i) ≡ wordOf (λ j. cond (eqb j i) false (bit w j))
+  clear-is = but-word w (2 ^ i) (λ j. eqb j i) h (pow-lt l) (λ j u. pow-bit i j) 32 (omega arith)
 
 -- a mask's bits set, and cleared
 module _ (w : ℕ) (f : ℕ → Bool) (h : w < 2 ^ 16) where
@@ -88,7 +89,7 @@ module _ (w : ℕ) (f : ℕ → Bool) (h : w < 2 ^ 16) where
   insert-is = or-word w (wordOf f) f h (pack-lt 16 f) (bit-pack 16 f)
 
   pub remove-is : bitAnd w ((2 ^ 16 - 1) - wordOf f) ≡ wordOf (λ i. cond (f i) false (bit w i))
-  remove-is = but-word w (wordOf f) f h (pack-lt 16 f) (bit-pack 16 f)
+  remove-is = but-word w (wordOf f) f h (pack-lt 16 f) (bit-pack 16 f) 16 (omega arith)
 
 -- bits replaced in a word that is known by its bits
 pub replace-is : (at : ℕ → Bool) (x : Bool) (f : ℕ → Bool) {w : ℕ} → w ≡ wordOf f → wordOf (λ i. cond (at i) x (bit w i)) ≡ wordOf (λ i. cond (at i) x (f i))
@@ -158,3 +159,28 @@ lowest-from w i h =
   where
     f : ℕ → Bool
     f j = cond (within 0 i j) false (bit w j)
+
+-- ---- the lowest set bit cleared
+
+-- one less than a number has its bits above the lowest one, which it lacks
+less-bit : (n w j : ℕ) → 0 < w → w < 2 ^ n → (bit w j && bit (w - 1) j) ≡ cond (eqb j (trailingZeros n w)) false (bit w j)
+unfolding trailingZeros
+less-bit zero w j h l = absurd (omega arith)
+less-bit (suc n) w zero h l = elim (ℕ-discrete (w % 2) 0) [
+  | yes e ↦ rw (e, low-is w false e, eqb·zero-suc)
+  | no ne ↦
+      let odd : w % 2 ≡ 1 = omega arith in
+      rw (odd, low-is (w - 1) false (omega arith), and-false)
+]
+less-bit (suc n) w (suc j) h l = elim (ℕ-discrete (w % 2) 0) [
+  | yes e ↦ rw (e, eqb·suc-suc, bit-up w j, half-is (w - 1) (w / 2 - 1) j (omega arith)) (less-bit n (w / 2) j (omega arith) (omega arith))
+  | no ne ↦
+      let odd : w % 2 ≡ 1 = omega arith in
+      rw (odd, eqb·suc-zero, bit-up w j, half-is (w - 1) (w / 2) j (omega arith)) (and-self (bit (w / 2) j))
+]
+
+-- `w & (w - 1)`
+pub less-is : (w : ℕ) → 0 < w → w < 2 ^ 16 → bitAnd w (w - 1) ≡ wordOf (λ j. cond (eqb j (lowestBit w)) false (bit w j))
+less-is w h l =
+    is-pack 16 (bitAnd w (w - 1)) (λ j. cond (eqb j (lowestBit w)) false (bit w j)) (lt-of-le-of-lt (and-le-l w _) l)
+    (λ j _. and-bit w (w - 1) j ∙ rw (lowest-is w) (less-bit 16 w j h l))

@@ -2,6 +2,7 @@
 pub mod Search
 pub mod Bits
 pub mod Tree
+pub mod Place
 pub mod Change
 pub mod Take
 pub mod Run

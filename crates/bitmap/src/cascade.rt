@@ -1,16 +1,20 @@
 // BitAllocCascade16: a map of level k over its lent words, its own word first and then its 16 children.
 // Each function takes the words of just that map and hands a child's part of them on.
 ghost use mathlib.Core.Path.{_≡_};
-ghost use mathlib.Core.Bool.{cond, not};
 ghost use Prim.Native.Nat.{suc, _+_, _-_, _*_, _≤_, _<_};
-ghost use lib.Dec.{ltb};
 ghost use lib.ListN.{length, replicate};
-ghost use Rattle.bitmap.specs.declared.cascade.Change.the-variants.{Insert, Remove};
-ghost use Rattle.bitmap.specs.Search.{firstFrom};
-ghost use Rattle.bitmap.specs.Tree.{words, cap, leaf?, free?, true?};
+ghost use Rattle.bitmap.specs.declared.cascade.Change.the-variants.{Remove};
+ghost use Rattle.bitmap.specs.Tree.{words, cap, free?, true?};
+ghost use Rattle.bitmap.specs.Place.{place};
 ghost use Rattle.bitmap.specs.Change.{change, low, high};
 ghost use Rattle.bitmap.specs.Take.{lowest};
 ghost use Rattle.bitmap.specs.Run.{nextIn};
+ghost use Rattle.bitmap.specs.Answer.{taken, changed, told};
+ghost use Rattle.bitmap.specs.Calls.{allocSays, allocAfter, giveSays, giveAfter, testSays};
+use crate::answers::Changed;
+use crate::answers::Refusal;
+use crate::answers::Taken;
+use crate::answers::Told;
 use crate::sizes;
 use crate::word;
 
@@ -20,55 +24,83 @@ pub enum Change {
     Remove,
 }
 
-// Takes the position that the lowest set bits lead to; past the map, and nothing changed, where a word on the way is 0.
-pub fn alloc(k: usize, s: &mut [u16]) -> usize
-    requires { ⌜ (k ≤ 6) × (length (now s) ≡ words k) ⌝ }
-    ensures { λ r. ⌜ r ≡ lowest k (now (s .entry)) ⌝ }
-    ensures { λ r. ⌜ now (s .exit) ≡ cond (ltb r (cap k)) (change Remove k (now (s .entry)) r (r + 1)) (now (s .entry)) ⌝ }
+// Where the leaf word of the position key stands among the words of a map of level k.
+pub fn leaf_at(k: usize, key: usize) -> usize
+    requires { ⌜ (k ≤ 6) × (key < cap k) ⌝ }
+    ensures { λ r. ⌜ (r ≡ place 0 k key) × (r < words k) ⌝ }
 {
-    let w = s[0];
-    let i = word::lowest(w);
-    if 16 <= i {
-        return sizes::cap_of(k);
-    }
-    if k == 0 {
-        s[0] = word::with_bit(w, i, false);
-        return i;
-    }
-    let size = sizes::words_of(k - 1);
-    let a = 1 + i * size;
-    let e = a + size;
-    let q = alloc(k - 1, &mut s[a..e]);
-    if sizes::cap_of(k - 1) <= q {
-        return sizes::cap_of(k);
-    }
-    s[0] = word::with_bit(w, i, s[a] != 0);
-    sizes::start_of(k - 1, i) + q
+    k + (key >> 4) + (key >> 8) + (key >> 12) + (key >> 16) + (key >> 20) + (key >> 24)
 }
 
-// Frees the position key, and answers whether it was taken; where it was free nothing changes.
-pub fn dealloc(k: usize, s: &mut [u16], key: usize) -> bool
-    requires { ⌜ (k ≤ 6) × (length (now s) ≡ words k) × (key < cap k) ⌝ }
-    ensures { λ r. ⌜ r ≡ not (leaf? k (now (s .entry)) key) ⌝ }
-    ensures { λ r. ⌜ now (s .exit) ≡ cond r (change Insert k (now (s .entry)) key (key + 1)) (now (s .entry)) ⌝ }
+// Takes the lowest free position: the lowest set bits lead to it. A word that is 0 on the way says that the map is untrue.
+pub fn alloc(k: usize, s: &mut [u16]) -> Taken
+    requires { ⌜ (k ≤ 6) × (length (now s) ≡ words k) ⌝ }
+    ensures { λ r. ⌜ taken r ≡ allocSays k (now (s .entry)) ⌝ }
+    ensures { λ _. ⌜ now (s .exit) ≡ allocAfter k (now (s .entry)) ⌝ }
 {
-    let w = s[0];
-    if k == 0 {
-        if word::test(w, key) {
-            return false;
+    let mut w = s[0];
+    if w == 0 { // no position is free
+        return Taken::No(Refusal::NoneFree);
+    }
+    let mut at = 0;
+    let mut p = 0;
+    let mut j = k;
+    while 0 < j {
+        j -= 1;
+        let i = word::lowest(w);
+        p = 16 * p + i;
+        at = at + 1 + i * sizes::words_of(j);
+        w = s[at];
+        if w == 0 {
+            return Taken::No(Refusal::Untrue);
         }
-        s[0] = word::with_bit(w, key, true);
-        return true;
     }
-    let i = sizes::child_of(k - 1, key);
-    let size = sizes::words_of(k - 1);
-    let a = 1 + i * size;
-    let e = a + size;
-    if dealloc(k - 1, &mut s[a..e], sizes::rest_of(k - 1, key)) {
-        s[0] = word::with_bit(w, i, true);
-        return true;
+    p = 16 * p + word::lowest(w);
+    take(k, s, at, p);
+    Taken::At(p)
+}
+
+// Clears the leaf bit of the lowest position, and above it the bit of each word that is 0 now.
+pub fn take(k: usize, s: &mut [u16], leaf: usize, p: usize)
+    requires { ⌜ (k ≤ 6) × (length (now s) ≡ words k) × (p < cap k) × (lowest k (now s) ≡ p) × (leaf ≡ place 0 k p) ⌝ }
+    ensures { λ _. ⌜ now (s .exit) ≡ change Remove k (now (s .entry)) p (p + 1) ⌝ }
+{
+    let mut at = leaf;
+    let mut w = word::without_lowest(s[at]);
+    s[at] = w;
+    let mut j = 0;
+    while w == 0 && j < k {
+        at = at - 1 - sizes::digit_of(j, p) * sizes::words_of(j);
+        w = word::without_lowest(s[at]);
+        s[at] = w;
+        j += 1;
     }
-    false
+}
+
+// Gives the position key back: its leaf bit is set, and above it the bit of each map on the way.
+pub fn dealloc(k: usize, s: &mut [u16], key: usize) -> Changed
+    requires { ⌜ (k ≤ 6) × (length (now s) ≡ words k) ⌝ }
+    ensures { λ r. ⌜ changed r ≡ giveSays key k (now (s .entry)) ⌝ }
+    ensures { λ _. ⌜ now (s .exit) ≡ giveAfter key k (now (s .entry)) ⌝ }
+{
+    if sizes::cap_of(k) <= key {
+        return Changed::No(Refusal::PastEnd);
+    }
+    let leaf = leaf_at(k, key);
+    let w = word::with_bit(s[leaf], key & 15, true);
+    if w == s[leaf] {
+        return Changed::No(Refusal::AlreadyFree);
+    }
+    s[leaf] = w;
+    let mut at = leaf;
+    let mut j = 0;
+    while j < k {
+        let i = sizes::digit_of(j, key);
+        at = at - 1 - i * sizes::words_of(j);
+        s[at] = word::with_bit(s[at], i, true);
+        j += 1;
+    }
+    Changed::Done
 }
 
 // Where the range that starts at a starts in child i of level j.
@@ -155,19 +187,18 @@ pub fn fill(s: &mut [u16], v: u16)
 }
 
 // Whether the leaf bit at key is set.
-pub fn test(k: usize, s: &[u16], key: usize) -> bool
-    requires { ⌜ (k ≤ 6) × (length (now s) ≡ words k) × (key < cap k) ⌝ }
-    ensures { λ r. ⌜ r ≡ leaf? k (now (s .entry)) key ⌝ }
+pub fn test(k: usize, s: &[u16], key: usize) -> Told
+    requires { ⌜ (k ≤ 6) × (length (now s) ≡ words k) ⌝ }
+    ensures { λ r. ⌜ told r ≡ testSays key k (now (s .entry)) ⌝ }
 {
-    if k == 0 {
-        let w = s[0];
-        return word::test(w, key);
+    if sizes::cap_of(k) <= key {
+        return Told::No(Refusal::PastEnd);
     }
-    let i = sizes::child_of(k - 1, key);
-    let size = sizes::words_of(k - 1);
-    let a = 1 + i * size;
-    let e = a + size;
-    test(k - 1, &s[a..e], sizes::rest_of(k - 1, key))
+    if word::test(s[leaf_at(k, key)], key & 15) {
+        Told::Yes
+    } else {
+        Told::Not
+    }
 }
 
 // The lowest position from key on that is free and seen; past the map where there is none.

@@ -10,7 +10,7 @@ ghost use Rattle.bitmap.specs.Tree.{words, cap, free?};
 ghost use Rattle.bitmap.specs.Run.{aligned};
 ghost use Rattle.bitmap.specs.GiveBack.{firstLeaf, giveBack};
 ghost use Rattle.bitmap.specs.Answer.{taken};
-ghost use Rattle.bitmap.specs.Calls.{misfit, runSays};
+ghost use Rattle.bitmap.specs.Calls.{misfit, allocSays, allocAfter, runSays, runAfter};
 use crate::answers::Refusal;
 use crate::answers::Taken;
 use crate::cascade;
@@ -195,6 +195,53 @@ pub fn find_run(k: usize, s: &[u16], base: Base, size: usize, align_log2: usize)
     match base {
         Base::Any => find_contiguous(k, s, size, align_log2),
         Base::At(b) => check_contiguous(k, s, b, size, align_log2),
+    }
+}
+
+// Takes that run.
+pub fn alloc_contiguous(
+    k: usize,
+    s: &mut [u16],
+    base: Base,
+    size: usize,
+    align_log2: usize,
+) -> Taken
+    requires { ⌜ (k ≤ 6) × (length (now s) ≡ words k) ⌝ }
+    ensures { λ r. ⌜ taken r ≡ runSays base size «align_log2» k (now (s .entry)) ⌝ }
+    ensures { λ _. ⌜ now (s .exit) ≡ runAfter base size «align_log2» k (now (s .entry)) ⌝ }
+{
+    match find_run(k, s, base, size, align_log2) {
+        Taken::At(b) => {
+            cascade::for_range(Change::Remove, k, s, b, b + size);
+            Taken::At(b)
+        }
+        Taken::No(r) => Taken::No(r),
+    }
+}
+
+// A single take by a table of the levels in use, so that each gets code of its own.
+fn alloc_at(k: usize, s: &mut [u16]) -> Taken
+    requires { ⌜ (k ≤ 6) × (length (now s) ≡ words k) ⌝ }
+    ensures { λ r. ⌜ taken r ≡ allocSays k (now (s .entry)) ⌝ }
+    ensures { λ _. ⌜ now (s .exit) ≡ allocAfter k (now (s .entry)) ⌝ }
+{
+    match k {
+        2 => cascade::alloc(2, s),
+        3 => cascade::alloc(3, s),
+        4 => cascade::alloc(4, s),
+        _ => cascade::alloc(k, s),
+    }
+}
+
+// Takes a run of one position anywhere: a single take, unless the map's summary bits lead that astray.
+pub fn alloc_one(k: usize, s: &mut [u16]) -> Taken
+    requires { ⌜ (k ≤ 6) × (length (now s) ≡ words k) ⌝ }
+    ensures { λ r. ⌜ taken r ≡ runSays Any 1 0 k (now (s .entry)) ⌝ }
+    ensures { λ _. ⌜ now (s .exit) ≡ runAfter Any 1 0 k (now (s .entry)) ⌝ }
+{
+    match alloc_at(k, s) {
+        Taken::At(p) => Taken::At(p),
+        Taken::No(_refused) => alloc_contiguous(k, s, Base::Any, 1, 0),
     }
 }
 

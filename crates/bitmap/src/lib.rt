@@ -34,14 +34,11 @@ pub fn alloc(store: &mut [u16]) -> Taken
     if k == 7 {
         return Taken::No(Refusal::WordCount);
     }
-    if store[0] == 0 {
-        return Taken::No(Refusal::NoneFree);
-    }
-    let p = cascade::alloc(k, store);
-    if p < sizes::cap_of(k) {
-        Taken::At(p)
-    } else {
-        Taken::No(Refusal::Untrue)
+    match k { // the sizes in use get code of their own
+        2 => cascade::alloc(2, store),
+        3 => cascade::alloc(3, store),
+        4 => cascade::alloc(4, store),
+        _ => cascade::alloc(k, store),
     }
 }
 
@@ -54,13 +51,14 @@ pub fn alloc_contiguous(store: &mut [u16], base: Base, size: usize, align_log2: 
     if k == 7 {
         return Taken::No(Refusal::WordCount);
     }
-    match contiguous::find_run(k, store, base, size, align_log2) {
-        Taken::At(b) => {
-            cascade::for_range(Change::Remove, k, store, b, b + size);
-            Taken::At(b)
+    if size == 1 {
+        if align_log2 == 0 {
+            if let Base::Any = base {
+                return contiguous::alloc_one(k, store);
+            }
         }
-        Taken::No(r) => Taken::No(r),
     }
+    contiguous::alloc_contiguous(k, store, base, size, align_log2)
 }
 
 // The lowest free position that is key or more.
@@ -92,13 +90,11 @@ pub fn dealloc(store: &mut [u16], key: usize) -> Changed
     if k == 7 {
         return Changed::No(Refusal::WordCount);
     }
-    if sizes::cap_of(k) <= key {
-        return Changed::No(Refusal::PastEnd);
-    }
-    if cascade::dealloc(k, store, key) {
-        Changed::Done
-    } else {
-        Changed::No(Refusal::AlreadyFree)
+    match k { // the sizes in use get code of their own
+        2 => cascade::dealloc(2, store, key),
+        3 => cascade::dealloc(3, store, key),
+        4 => cascade::dealloc(4, store, key),
+        _ => cascade::dealloc(k, store, key),
     }
 }
 
@@ -182,13 +178,11 @@ pub fn test(store: &[u16], key: usize) -> Told
     if k == 7 {
         return Told::No(Refusal::WordCount);
     }
-    if sizes::cap_of(k) <= key {
-        return Told::No(Refusal::PastEnd);
-    }
-    if cascade::test(k, store, key) {
-        Told::Yes
-    } else {
-        Told::Not
+    match k { // the sizes in use get code of their own
+        2 => cascade::test(2, store, key),
+        3 => cascade::test(3, store, key),
+        4 => cascade::test(4, store, key),
+        _ => cascade::test(k, store, key),
     }
 }
 

@@ -118,6 +118,14 @@ pub fn child_of(j: usize, p: usize) -> usize
     p >> (4 * j + 4)
 }
 
+// Which child of its map the part of level j at position p is.
+pub fn digit_of(j: usize, p: usize) -> usize
+    requires { ⌜ j ≤ 5 ⌝ }
+    ensures { λ r. ⌜ r ≡ p / cap j % 16 ⌝ }
+{
+    (p >> (4 * j + 4)) & 15
+}
+
 // How far into that child it is.
 pub fn rest_of(j: usize, p: usize) -> usize
     requires { ⌜ j ≤ 5 ⌝ }

@@ -1,6 +1,6 @@
 // BitAlloc16: one word of 16 positions, of which a set bit is a free one.
 ghost use mathlib.Core.Path.{_≡_};
-ghost use mathlib.Core.Bool.{cond};
+ghost use mathlib.Core.Bool.{false, cond};
 ghost use lib.Dec.{eqb};
 ghost use Prim.Native.Nat.{_+_, _-_, _≤_, _<_};
 ghost use Rattle.bitmap.specs.Search.{firstFrom};
@@ -14,7 +14,7 @@ pub fn test(w: u16, i: usize) -> bool
     requires { ⌜ i < 16 ⌝ }
     ensures { λ r. ⌜ r ≡ bit w i ⌝ }
 {
-    (w >> i) & 1 == 1
+    (w as u32 >> i) & 1 == 1
 }
 
 // The word with bit i as given.
@@ -22,7 +22,11 @@ pub fn with_bit(w: u16, i: usize, on: bool) -> u16
     requires { ⌜ i < 16 ⌝ }
     ensures { λ r. ⌜ r ≡ wordOf (λ j. cond (eqb j i) on (bit w j)) ⌝ }
 {
-    if on { w | (1 << i) } else { w & !(1 << i) }
+    if on {
+        (w as u32 | (1u32 << i)) as u16
+    } else {
+        (w as u32 & !(1u32 << i)) as u16
+    }
 }
 
 // The bits from start up to end.
@@ -75,4 +79,12 @@ pub fn lowest(w: u16) -> usize
     ensures { λ r. ⌜ r ≡ lowestBit w ⌝ }
 {
     u16::trailing_zeros(w) as usize
+}
+
+// The word without its lowest set bit.
+pub fn without_lowest(w: u16) -> u16
+    requires { ⌜ 0 < w ⌝ }
+    ensures { λ r. ⌜ r ≡ wordOf (λ j. cond (eqb j (lowestBit w)) false (bit w j)) ⌝ }
+{
+    w & (w - 1)
 }

@@ -1,15 +1,8 @@
--- `bitmap::test` meets its contract. Assumes nothing.
+-- `bitmap::test` meets its contract: each arm is the map's own call. Assumes nothing.
 use borrow.Author.Needs.{needs}
-use borrow.Author.Tests.{le-leb, lt-leb}
-use mathlib.Core.Path.{sym, ap, _∙_}
-use mathlib.Core.Bool.{Bool}
-use native.Mathlib.Omega.{arith}
-use Rattle.bitmap.specs.Bits.{digit}
-use Rattle.bitmap.specs.Tree.{cap}
-use Rattle.bitmap.specs.Answer.{given}
+use mathlib.Core.Path.{refl, _∙_}
 use Rattle.bitmap.specs.Calls.{testSays}
-use Rattle.bitmap.proofs.Stores.{answer-none, answer-at, sized}
-use Rattle.bitmap.proofs.Refusals.{no, on}
+use Rattle.bitmap.proofs.Stores.{answer-none, map-fits, map-answer}
 use Rattle.bitmap.proofs.test.Statement.{statement}
 use Rattle.bitmap.proofs.test.Tie as tie
 
@@ -19,30 +12,45 @@ level-of-requires c κs = search needs
 returns : tie.Need-returns
 returns c = answer-none _ _ (c .before .level-of .ensures) (c .if1 .taken) (testSays (c .before .before .before .args .key))
 
-cap-of-requires : tie.Need-cap-of-requires
-cap-of-requires c κs = search needs
+test-requires : tie.Need-test-requires
+test-requires c κs =
+    let e = c .before in
+    map-fits (e .before .before .before .args .store .now) (e .before .level-of .ensures) (e .if1 .left) 2 (c .match .keys1)
+
+test-requires-2 : tie.Need-test-requires-2
+test-requires-2 c κs =
+    let e = c .before in
+    map-fits (e .before .before .before .args .store .now) (e .before .level-of .ensures) (e .if1 .left) 3 (c .match .keys2)
+
+test-requires-3 : tie.Need-test-requires-3
+test-requires-3 c κs =
+    let e = c .before in
+    map-fits (e .before .before .before .args .store .now) (e .before .level-of .ensures) (e .if1 .left) 4 (c .match .keys3)
+
+test-requires-4 : tie.Need-test-requires-4
+test-requires-4 c κs =
+    let e = c .before in
+    map-fits (e .before .before .before .args .store .now) (e .before .level-of .ensures) (e .if1 .left) _ refl
 
 returns-2 : tie.Need-returns-2
 returns-2 c =
     let e = c .before .before in
-    no 2 _ _ (le-leb (cap (e .before .level-of .result)) _ (omega arith)) ∙ answer-at _ _ (e .before .level-of .ensures) (e .if1 .left) (testSays (e .before .before .before .args .key))
-
-test-requires : tie.Need-test-requires
-test-requires c κs =
-    let e = c .before .before in
-    (omega arith, sized (e .before .before .before .args .store .now) _ (e .before .level-of .ensures) (e .if1 .left), omega arith)
+    c .test .ensures ∙ map-answer _ (e .before .level-of .ensures) (e .if1 .left) 2 (c .before .match .keys1) (testSays _)
 
 returns-3 : tie.Need-returns-3
 returns-3 c =
-    let e = c .before .before .before .before in
-    on 2 _ _ (lt-leb (cap (e .before .level-of .result)) _ (omega arith)) (ap (λ (b : Bool). given (digit b)) (sym (c .if3 .taken) ∙ c .before .test .ensures))
-    ∙ answer-at _ _ (e .before .level-of .ensures) (e .if1 .left) (testSays (e .before .before .before .args .key))
+    let e = c .before .before in
+    c .test2 .ensures ∙ map-answer _ (e .before .level-of .ensures) (e .if1 .left) 3 (c .before .match .keys2) (testSays _)
 
 returns-4 : tie.Need-returns-4
 returns-4 c =
-    let e = c .before .before .before .before in
-    on 2 _ _ (lt-leb (cap (e .before .level-of .result)) _ (omega arith)) (ap (λ (b : Bool). given (digit b)) (sym (c .if3 .left) ∙ c .before .test .ensures))
-    ∙ answer-at _ _ (e .before .level-of .ensures) (e .if1 .left) (testSays (e .before .before .before .args .key))
+    let e = c .before .before in
+    c .test3 .ensures ∙ map-answer _ (e .before .level-of .ensures) (e .if1 .left) 4 (c .before .match .keys3) (testSays _)
+
+returns-5 : tie.Need-returns-5
+returns-5 c =
+    let e = c .before .before in
+    c .test4 .ensures ∙ map-answer _ (e .before .level-of .ensures) (e .if1 .left) _ refl (testSays _)
 
 pub test-spec : {M : Type 1} → statement M
 test-spec =
@@ -50,8 +58,11 @@ test-spec =
     (tie.spec
     level-of-requires
     returns
-    cap-of-requires
-    returns-2
     test-requires
+    test-requires-2
+    test-requires-3
+    test-requires-4
+    returns-2
     returns-3
-    returns-4)
+    returns-4
+    returns-5)

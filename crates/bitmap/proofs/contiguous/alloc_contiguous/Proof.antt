@@ -1,0 +1,91 @@
+-- `bitmap::contiguous::alloc_contiguous` meets its contract: the run that is found, and then the change of `remove`. Assumes nothing.
+use borrow.Author.Needs.{needs}
+use mathlib.Core.Path.{_≡_, sym, ap, _∙_}
+use mathlib.Core.List.{List}
+use Prim.Native.Nat.{ℕ, _+_, _≤_, _<_}
+use native.Mathlib.Omega.{arith}
+use Rattle.bitmap.specs.declared.cascade.Change.the-variants.{Remove}
+use Rattle.bitmap.specs.Tree.{cap}
+use Rattle.bitmap.specs.Change.{change}
+use Rattle.bitmap.specs.Answer.{given, taken}
+use Rattle.bitmap.specs.Calls.{runSays}
+use Rattle.bitmap.proofs.Levels.{cap-small}
+use Rattle.bitmap.proofs.Refusals.{settle-no, settle-on}
+use Rattle.bitmap.proofs.RunAnswers.{run-fits}
+use Rattle.bitmap.proofs.contiguous.alloc_contiguous.Statement.{statement}
+use Rattle.bitmap.proofs.contiguous.alloc_contiguous.Tie as tie
+use Rattle.bitmap.proofs.contiguous.alloc_contiguous.Reads as reads
+use Rattle.bitmap.proofs.contiguous.alloc_contiguous.Lts as lts
+use Rattle.bitmap.proofs.cascade.for_range.Reads as for-range
+use Rattle.bitmap.proofs.contiguous.find_run.Reads as find-run
+
+-- what a take of size positions from b on makes of the words
+abbrev made : ℕ → ℕ → List ℕ → ℕ → List ℕ
+made size k s b = change Remove k s b (b + size)
+
+abbrev claims : lts.Claims
+claims = (find-run.Asked, find-run.Learnt, for-range.Asked, for-range.Learnt)
+
+-- a run was found
+module _ (f : lts.After-b claims reads.Pre reads.Post) where
+  abbrev start : lts.Start claims reads.Pre reads.Post
+  start = f .before .before .before .before .before
+
+  abbrev at : ℕ
+  at = f .b .given .0 .0
+
+  found-at : given at ≡ runSays (start .args .base) (start .args .size) (start .args .align-log2) (start .args .k) (start .args .s .now)
+  found-at = sym (ap taken (f .b .given .1)) ∙ f .before .before .find-run .ensures
+
+  fits-in : (0 < start .args .size) × (at + start .args .size ≤ cap (start .args .k))
+  fits-in = run-fits (start .args .base) (start .args .size) (start .args .align-log2) (start .args .k) (start .args .s .now) at found-at
+
+find-run-requires : tie.Need-find-run-requires
+find-run-requires c κs = search needs
+
+enum-known-b : tie.Need-enum-known-b
+enum-known-b c = search needs
+
+add-for-range : tie.Need-add-for-range
+add-for-range c = let fits = fits-in (c .before .before) in omega (arith, fits, cap-small (start (c .before .before) .args .k) (omega arith))
+
+for-range-requires : tie.Need-for-range-requires
+for-range-requires c κs =
+    let fits = fits-in (c .before .before) in
+    (omega arith, start (c .before .before) .pre .1, omega (arith, fits .0), omega (arith, fits .1))
+
+enum-known-r : tie.Need-enum-known-r
+enum-known-r c = search needs
+
+same-length : tie.Need-same-length
+same-length c = search needs
+
+returns : tie.Need-returns
+returns c =
+    let f = c .before .before .before .before .before in
+    let a = start f .args in
+    (found-at f, c .before .before .for-range .ensures ∙ settle-on _ (at f) (a .s .now) (made (a .size) (a .k) (a .s .now)) (found-at f))
+
+same-length-2 : tie.Need-same-length-2
+same-length-2 c = search needs
+
+returns-2 : tie.Need-returns-2
+returns-2 c =
+    let found = c .before .before .before in
+    let a = found .before .before .before .args in
+    let e = sym (ap taken (c .before .r .given .1)) ∙ found .find-run .ensures in
+    (e, settle-no _ _ (a .s .now) (made (a .size) (a .k) (a .s .now)) e)
+
+pub alloc-contiguous-spec : {M : Type 1} → statement M
+alloc-contiguous-spec =
+    tie.close
+    (tie.spec
+    find-run-requires
+    enum-known-b
+    add-for-range
+    for-range-requires
+    enum-known-r
+    same-length
+    returns
+    same-length-2
+    returns-2)
