@@ -5,8 +5,8 @@ use mathlib.Core.Logic.{⊎-elim}
 use mathlib.Core.List.{List}
 use Prim.Native.Nat.{ℕ, suc, _^_, _<_}
 use lib.ListN.{length}
-use Rattle.bitmap.specs.Bits.{bit, pack}
-use Rattle.bitmap.specs.Tree.{words, own, child, node, some, replaced, marked, renew}
+use Rattle.bitmap.specs.Bits.{bit}
+use Rattle.bitmap.specs.Tree.{words, own, child, some, replaced, marked, renew}
 use Rattle.bitmap.proofs.Search.{sort}
 use Rattle.bitmap.proofs.Bits.{bit-pack, pack-ext, pack-lt}
 use Rattle.bitmap.proofs.Rows.{node-ext, own-node, length-node, child-node, length-child}

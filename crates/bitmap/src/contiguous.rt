@@ -1,12 +1,10 @@
 // Aligned runs: finding one, checking one at a base, and the crate's run give-back. Over a map of level k, as cascade.rt.
 ghost use mathlib.Core.Path.{_≡_};
-ghost use mathlib.Core.Bool.{true, not};
-ghost use Prim.Native.Nat.{suc, _+_, _-_, _*_, _/_, _%_, _^_, min, _≤_, _<_};
-ghost use lib.Dec.{eqb, leb};
+ghost use Prim.Native.Nat.{_+_, _-_, _*_, _/_, _^_, min, _≤_, _<_};
+ghost use lib.Dec.{leb};
 ghost use lib.ListN.{length};
 ghost use Rattle.bitmap.specs.declared.contiguous.Base.the-variants.{Any, At};
-ghost use Rattle.bitmap.specs.Search.{firstFrom};
-ghost use Rattle.bitmap.specs.Tree.{words, cap, free?};
+ghost use Rattle.bitmap.specs.Tree.{words, cap};
 ghost use Rattle.bitmap.specs.Run.{aligned};
 ghost use Rattle.bitmap.specs.GiveBack.{firstLeaf, giveBack};
 ghost use Rattle.bitmap.specs.Answer.{taken};
@@ -15,7 +13,9 @@ use crate::answers::Refusal;
 use crate::answers::Taken;
 use crate::cascade;
 use crate::cascade::Change;
+use crate::position;
 use crate::sizes;
+use crate::stretch;
 use crate::word;
 
 // Where a run has to start: anywhere, or at a base.
@@ -59,74 +59,6 @@ pub fn run_end(base: usize, size: usize) -> usize
     }
 }
 
-// The first position from key on in key's own leaf word that is not free and seen; the word's end where there is none.
-pub fn end_in_word(k: usize, s: &[u16], key: usize) -> usize
-    requires { ⌜ (k ≤ 6) × (length (now s) ≡ words k) × (key < cap k) ⌝ }
-    ensures { λ r. ⌜ r ≡ firstFrom (λ p. not (free? k (now (s .entry)) p)) key (16 - key % 16) ⌝ }
-{
-    if k == 0 {
-        let w = s[0];
-        return word::lowest(word::change(Change::Remove, !w, 0, key));
-    }
-    let j = k - 1;
-    let i = sizes::child_of(j, key);
-    if !word::test(s[0], i) {
-        return key;
-    }
-    let size = sizes::words_of(j);
-    let from = 1 + i * size;
-    let to = from + size;
-    sizes::start_of(j, i) + end_in_below(j, &s[from..to], sizes::rest_of(j, key))
-}
-
-// The same by a table of the levels, so that the compiled code has each level's numbers in it.
-pub fn end_in_below(k: usize, s: &[u16], key: usize) -> usize
-    requires { ⌜ (k ≤ 5) × (length (now s) ≡ words k) × (key < cap k) ⌝ }
-    ensures { λ r. ⌜ r ≡ firstFrom (λ p. not (free? k (now (s .entry)) p)) key (16 - key % 16) ⌝ }
-{
-    match k {
-        0 => end_in_word(0, s, key),
-        1 => end_in_word(1, s, key),
-        2 => end_in_word(2, s, key),
-        3 => end_in_word(3, s, key),
-        4 => end_in_word(4, s, key),
-        _ => end_in_word(5, s, key),
-    }
-}
-
-// The first position from a up to b that is not free and seen; b where there is none.
-pub fn end_of(k: usize, s: &[u16], a: usize, b: usize) -> usize
-    requires { ⌜ (k ≤ 6) × (length (now s) ≡ words k) × (a < b) × (b ≤ cap k) ⌝ }
-    ensures { λ r. ⌜ r ≡ firstFrom (λ p. not (free? k (now (s .entry)) p)) a (b - a) ⌝ }
-{
-    let mut x = a;
-    while x < b {
-        let r = end_in_word(k, s, x);
-        let word_end = (x | 15) + 1;
-        if r < word_end {
-            return if r < b { r } else { b };
-        }
-        x = word_end;
-    }
-    b
-}
-
-// The same by a table of the levels, so that the compiled code has each level's numbers in it.
-pub fn end_at(k: usize, s: &[u16], a: usize, b: usize) -> usize
-    requires { ⌜ (k ≤ 6) × (length (now s) ≡ words k) × (a < b) × (b ≤ cap k) ⌝ }
-    ensures { λ r. ⌜ r ≡ firstFrom (λ p. not (free? k (now (s .entry)) p)) a (b - a) ⌝ }
-{
-    match k {
-        0 => end_of(0, s, a, b),
-        1 => end_of(1, s, a, b),
-        2 => end_of(2, s, a, b),
-        3 => end_of(3, s, a, b),
-        4 => end_of(4, s, a, b),
-        5 => end_of(5, s, a, b),
-        _ => end_of(6, s, a, b),
-    }
-}
-
 // The lowest aligned run, or the refusal.
 pub fn find_contiguous(k: usize, s: &[u16], size: usize, align_log2: usize) -> Taken
     requires { ⌜ (k ≤ 6) × (length (now s) ≡ words k) ⌝ }
@@ -146,7 +78,7 @@ pub fn find_contiguous(k: usize, s: &[u16], size: usize, align_log2: usize) -> T
             return Taken::No(Refusal::NoneFree);
         }
         let to = base + size;
-        let end = end_at(k, s, base, to);
+        let end = stretch::end_at(k, s, base, to);
         if end == to {
             return Taken::At(base);
         }
@@ -180,7 +112,7 @@ pub fn check_contiguous(k: usize, s: &[u16], base: usize, size: usize, align_log
     if cap < to {
         return Taken::No(Refusal::PastEnd);
     }
-    let end = end_at(k, s, base, to);
+    let end = stretch::end_at(k, s, base, to);
     if end == to {
         return Taken::At(base);
     }
@@ -226,10 +158,10 @@ fn alloc_at(k: usize, s: &mut [u16]) -> Taken
     ensures { λ _. ⌜ now (s .exit) ≡ allocAfter k (now (s .entry)) ⌝ }
 {
     match k {
-        2 => cascade::alloc(2, s),
-        3 => cascade::alloc(3, s),
-        4 => cascade::alloc(4, s),
-        _ => cascade::alloc(k, s),
+        2 => position::alloc(2, s),
+        3 => position::alloc(3, s),
+        4 => position::alloc(4, s),
+        _ => position::alloc(k, s),
     }
 }
 

@@ -8,7 +8,9 @@ ghost use Rattle.bitmap.specs.Calls.{answer, after, allocSays, allocAfte
 mod answers;
 mod cascade;
 mod contiguous;
+mod position;
 mod sizes;
+mod stretch;
 mod word;
 
 pub use answers::Changed;
@@ -35,10 +37,10 @@ pub fn alloc(store: &mut [u16]) -> Taken
         return Taken::No(Refusal::WordCount);
     }
     match k { // the sizes in use get code of their own
-        2 => cascade::alloc(2, store),
-        3 => cascade::alloc(3, store),
-        4 => cascade::alloc(4, store),
-        _ => cascade::alloc(k, store),
+        2 => position::alloc(2, store),
+        3 => position::alloc(3, store),
+        4 => position::alloc(4, store),
+        _ => position::alloc(k, store),
     }
 }
 
@@ -91,10 +93,10 @@ pub fn dealloc(store: &mut [u16], key: usize) -> Changed
         return Changed::No(Refusal::WordCount);
     }
     match k { // the sizes in use get code of their own
-        2 => cascade::dealloc(2, store, key),
-        3 => cascade::dealloc(3, store, key),
-        4 => cascade::dealloc(4, store, key),
-        _ => cascade::dealloc(k, store, key),
+        2 => position::dealloc(2, store, key),
+        3 => position::dealloc(3, store, key),
+        4 => position::dealloc(4, store, key),
+        _ => position::dealloc(k, store, key),
     }
 }
 
@@ -179,10 +181,10 @@ pub fn test(store: &[u16], key: usize) -> Told
         return Told::No(Refusal::WordCount);
     }
     match k { // the sizes in use get code of their own
-        2 => cascade::test(2, store, key),
-        3 => cascade::test(3, store, key),
-        4 => cascade::test(4, store, key),
-        _ => cascade::test(k, store, key),
+        2 => position::test(2, store, key),
+        3 => position::test(3, store, key),
+        4 => position::test(4, store, key),
+        _ => position::test(k, store, key),
     }
 }
 

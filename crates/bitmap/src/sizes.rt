@@ -1,8 +1,7 @@
 // The seven sizes, each with its positions and its words, and the steps between a map and its children.
 // A map's level k counts the levels below its own word: BitAlloc16 has k = 0.
 ghost use mathlib.Core.Path.{_≡_};
-ghost use Prim.Native.Nat.{_+_, _*_, _/_, _%_, _≤_, _<_};
-ghost use lib.ListN.{length};
+ghost use Prim.Native.Nat.{_*_, _/_, _%_, _≤_};
 ghost use Rattle.bitmap.specs.Tree.{words, cap};
 ghost use Rattle.bitmap.specs.Calls.{levelOf};
 

@@ -1,11 +1,11 @@
 -- `bitmap::for_range`, which `insert` and `remove` share, meets its contract. Assumes nothing.
 use borrow.Author.Needs.{needs}
 use borrow.Author.Tests.{le-ltb, lt-ltb, eq-eqb, ne-eqb}
-use mathlib.Core.Path.{refl, ap}
+use mathlib.Core.Path.{refl}
 use mathlib.Core.List.{List}
 use Prim.Native.Nat.{ℕ}
 use native.Mathlib.Omega.{arith}
-use lib.Dec.{ltb, eqb}
+use lib.Dec.{eqb}
 use Rattle.bitmap.specs.declared.cascade.Change.{Change}
 use Rattle.bitmap.specs.Tree.{cap}
 use Rattle.bitmap.specs.Change.{change}

@@ -1,9 +1,8 @@
 -- `bitmap::contiguous::alloc_one` meets its contract: a single take is a run of one, and one that is refused leaves the words as they
 -- were. Assumes nothing.
 use borrow.Author.Needs.{needs}
-use mathlib.Core.Path.{_≡_, sym, ap, _∙_}
-use mathlib.Core.List.{List}
-use Prim.Native.Nat.{ℕ, _+_}
+use mathlib.Core.Path.{sym, ap, _∙_}
+use Prim.Native.Nat.{_+_}
 use Rattle.bitmap.specs.declared.cascade.Change.the-variants.{Remove}
 use Rattle.bitmap.specs.declared.contiguous.Base.the-variants.{Any}
 use Rattle.bitmap.specs.Change.{change}

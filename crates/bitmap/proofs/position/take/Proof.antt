@@ -1,4 +1,4 @@
--- `bitmap::cascade::take` meets its contract. The loop climbs from the leaf word (`Climb`), where w is the word stored last; it ends at the
+-- `bitmap::position::take` meets its contract. The loop climbs from the leaf word (`Climb`), where w is the word stored last; it ends at the
 -- map's own word, or where w is not 0, since then no word above changes. The measure is the levels that are left. Assumes nothing.
 use mathlib.Core.Path.{_≡_, refl, sym, ap, _∙_}
 use Prim.Native.Nat.{ℕ, _+_, _-_, _*_, _%_, _<_, _≤_}
@@ -12,8 +12,8 @@ use Rattle.bitmap.proofs.Levels.{words-small}
 use Rattle.bitmap.proofs.Places.{place-lt, place-word}
 use Rattle.bitmap.proofs.Climb.{Climbed, Climbs, climb-leaf, climb-fits, climb-length, climb-end}
 use Rattle.bitmap.proofs.TakenWay.{low-pos, low-leaf, take-end, take-low, take-turn}
-use Rattle.bitmap.proofs.cascade.take.Statement.{statement}
-use Rattle.bitmap.proofs.cascade.take.Tie as tie
+use Rattle.bitmap.proofs.position.take.Statement.{statement}
+use Rattle.bitmap.proofs.position.take.Tie as tie
 
 abbrev Inv-loop : tie.InvT-loop
 Inv-loop k s₀ leaf p at₀ w₀ j₀ s at w j = (w ≡ getD s at 0) × Climbs Remove k p s₀ at₀ j₀ s at j

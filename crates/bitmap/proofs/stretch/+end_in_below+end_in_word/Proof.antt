@@ -1,4 +1,4 @@
--- The proof of the cycle of calls {contiguous::end_in_below, contiguous::end_in_word}. A word of level k asks the table at k - 1, and
+-- The proof of the cycle of calls {stretch::end_in_below, stretch::end_in_word}. A word of level k asks the table at k - 1, and
 -- the table the word at the same level: the measure is 2 k for a word, and 2 k + 1 for the table. Assumes nothing.
 use mathlib.Core.Path.{_≡_, sym, ap, _∙_}
 use Prim.Native.Nat.{ℕ, suc, _+_, _-_, _*_, _≤_, _<_}
@@ -14,12 +14,12 @@ use Rattle.bitmap.specs.Take.{lowestBit}
 use Rattle.bitmap.proofs.Levels.{words-pos, cap-pos, leaf-cap}
 use Rattle.bitmap.proofs.Path.{Entered, enter, entered-part, entered-length, level-below, position-child}
 use Rattle.bitmap.proofs.Ends as laws
-use Rattle.bitmap.proofs.contiguous.end_in_below.Reads as table
-use Rattle.bitmap.proofs.contiguous.end_in_below.Kinds as table-kinds
-use Rattle.bitmap.proofs.contiguous.+end_in_below+end_in_word.Lts-end_in_below as table-lts
-use Rattle.bitmap.proofs.contiguous.end_in_word.Reads as word
-use Rattle.bitmap.proofs.contiguous.end_in_word.Kinds as word-kinds
-use Rattle.bitmap.proofs.contiguous.+end_in_below+end_in_word.Lts-end_in_word as word-lts
+use Rattle.bitmap.proofs.stretch.end_in_below.Reads as table
+use Rattle.bitmap.proofs.stretch.end_in_below.Kinds as table-kinds
+use Rattle.bitmap.proofs.stretch.+end_in_below+end_in_word.Lts-end_in_below as table-lts
+use Rattle.bitmap.proofs.stretch.end_in_word.Reads as word
+use Rattle.bitmap.proofs.stretch.end_in_word.Kinds as word-kinds
+use Rattle.bitmap.proofs.stretch.+end_in_below+end_in_word.Lts-end_in_word as word-lts
 use Rattle.bitmap.proofs.sizes.child_of.Reads as child-of
 use Rattle.bitmap.proofs.sizes.rest_of.Reads as rest-of
 use Rattle.bitmap.proofs.sizes.start_of.Reads as start-of
@@ -27,8 +27,8 @@ use Rattle.bitmap.proofs.sizes.words_of.Reads as words-of
 use Rattle.bitmap.proofs.word.change.Reads as change
 use Rattle.bitmap.proofs.word.lowest.Reads as lowest
 use Rattle.bitmap.proofs.word.test.Reads as test
-use Rattle.bitmap.proofs.contiguous.+end_in_below+end_in_word.{statement}
-use Rattle.bitmap.proofs.contiguous.+end_in_below+end_in_word.Tie.{close}
+use Rattle.bitmap.proofs.stretch.+end_in_below+end_in_word.{statement}
+use Rattle.bitmap.proofs.stretch.+end_in_below+end_in_word.Tie.{close}
 
 abbrev table-level : Measures 1 table-kinds.ps ℕ
 table-level κs a = 2 * a .0 + 1

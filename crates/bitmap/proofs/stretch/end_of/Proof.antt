@@ -1,4 +1,4 @@
--- `bitmap::contiguous::end_of` meets its contract. The loop's invariant: the search goes on at x (`Reached`). The measure is what is left of
+-- `bitmap::stretch::end_of` meets its contract. The loop's invariant: the search goes on at x (`Reached`). The measure is what is left of
 -- the range. Assumes nothing.
 use mathlib.Core.Path.{_≡_, sym}
 use Prim.Native.Nat.{_-_, min}
@@ -6,8 +6,8 @@ use native.Mathlib.Omega.{arith}
 use Rattle.bitmap.specs.Search.{firstFrom}
 use Rattle.bitmap.proofs.Levels.{cap-small}
 use Rattle.bitmap.proofs.Ends as laws
-use Rattle.bitmap.proofs.contiguous.end_of.Statement.{statement}
-use Rattle.bitmap.proofs.contiguous.end_of.Tie as tie
+use Rattle.bitmap.proofs.stretch.end_of.Statement.{statement}
+use Rattle.bitmap.proofs.stretch.end_of.Tie as tie
 
 abbrev Inv-loop : tie.InvT-loop
 Inv-loop k s a b x₀ x = laws.Reached (laws.held k s) a b x

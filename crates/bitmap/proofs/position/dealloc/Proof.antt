@@ -1,4 +1,4 @@
--- `bitmap::cascade::dealloc` meets its contract. The loop climbs from the leaf word (`Climb`) to the map's own word, and the measure is
+-- `bitmap::position::dealloc` meets its contract. The loop climbs from the leaf word (`Climb`) to the map's own word, and the measure is
 -- the levels that are left. Assumes nothing.
 use mathlib.Core.Path.{refl, sym, _∙_}
 use mathlib.Core.Bool.{true}
@@ -14,8 +14,8 @@ use Rattle.bitmap.proofs.GiveOne.{give-past, give-free, give-taken, set
 use Rattle.bitmap.proofs.Stages.{newBelow-some}
 use Rattle.bitmap.proofs.Index.{low-lt}
 use Rattle.bitmap.proofs.Climb.{Climbed, Climbs, climb-leaf, climb-fits, climb, climb-length, climb-end}
-use Rattle.bitmap.proofs.cascade.dealloc.Statement.{statement}
-use Rattle.bitmap.proofs.cascade.dealloc.Tie as tie
+use Rattle.bitmap.proofs.position.dealloc.Statement.{statement}
+use Rattle.bitmap.proofs.position.dealloc.Tie as tie
 
 abbrev Inv-loop : tie.InvT-loop
 Inv-loop k s₀ key leaf w at₀ j₀ s at j = Climbs Insert k key s₀ at₀ j₀ s at j

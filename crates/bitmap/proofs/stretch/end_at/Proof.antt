@@ -1,4 +1,4 @@
--- `bitmap::contiguous::end_at` meets its contract. Each arm hands the call on at its own level. Assumes nothing.
+-- `bitmap::stretch::end_at` meets its contract. Each arm hands the call on at its own level. Assumes nothing.
 use mathlib.Core.Path.{_≡_, ap}
 use Prim.Native.Nat.{ℕ, _-_, _≤_, _<_}
 use native.Mathlib.Omega.{arith}
@@ -6,8 +6,8 @@ use lib.ListN.{length}
 use Rattle.bitmap.specs.Search.{firstFrom}
 use Rattle.bitmap.specs.Tree.{words, cap}
 use Rattle.bitmap.proofs.Ends.{held}
-use Rattle.bitmap.proofs.contiguous.end_at.Statement.{statement}
-use Rattle.bitmap.proofs.contiguous.end_at.Tie as tie
+use Rattle.bitmap.proofs.stretch.end_at.Statement.{statement}
+use Rattle.bitmap.proofs.stretch.end_at.Tie as tie
 
 module _ (c : tie.Start) {n : ℕ} (e : c .args .k ≡ n) where
   asks : (n ≤ 6) × (length (c .args .s .now) ≡ words n) × (c .args .a < c .args .b) × (c .args .b ≤ cap n)

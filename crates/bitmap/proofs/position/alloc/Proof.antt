@@ -1,4 +1,4 @@
--- `bitmap::cascade::alloc` meets its contract. The loop's invariant: the lowest set bits lead to the part of level j that begins at the
+-- `bitmap::position::alloc` meets its contract. The loop's invariant: the lowest set bits lead to the part of level j that begins at the
 -- word w (`Way`), which is not 0. The measure is the level. Assumes nothing.
 use borrow.Author.Needs.{needs}
 use mathlib.Core.Path.{_≡_, refl}
@@ -12,8 +12,8 @@ use Rattle.bitmap.proofs.Levels.{words-pos}
 use Rattle.bitmap.proofs.Path.{level-below}
 use Rattle.bitmap.proofs.Descent.{Way, some-lowest, way-start, way-at, way-small, way-lost, way-down, way-end}
 use Rattle.bitmap.proofs.TakeOne.{take-none, take-lost, take-given}
-use Rattle.bitmap.proofs.cascade.alloc.Statement.{statement}
-use Rattle.bitmap.proofs.cascade.alloc.Tie as tie
+use Rattle.bitmap.proofs.position.alloc.Statement.{statement}
+use Rattle.bitmap.proofs.position.alloc.Tie as tie
 
 abbrev Inv-loop : tie.InvT-loop
 Inv-loop k s w₀ at₀ p₀ j₀ w at p j = Way k s j at p × (w ≡ getD s at 0) × (w ≡ 0 → ⊥)

@@ -1,10 +1,10 @@
--- `bitmap::cascade::leaf_at` meets its contract. The shifts of the position are the words passed on each level. Assumes nothing.
+-- `bitmap::position::leaf_at` meets its contract. The shifts of the position are the words passed on each level. Assumes nothing.
 use borrow.Author.Needs.{needs}
 use native.Mathlib.Omega.{arith}
 use Rattle.bitmap.proofs.Places.{place-lt}
 use Rattle.bitmap.proofs.Index.{place-shifts}
-use Rattle.bitmap.proofs.cascade.leaf_at.Statement.{statement}
-use Rattle.bitmap.proofs.cascade.leaf_at.Tie as tie
+use Rattle.bitmap.proofs.position.leaf_at.Statement.{statement}
+use Rattle.bitmap.proofs.position.leaf_at.Tie as tie
 
 add-result : tie.Need-add-result
 add-result c = search needs

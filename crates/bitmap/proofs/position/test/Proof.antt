@@ -1,4 +1,4 @@
--- `bitmap::cascade::test` meets its contract. The leaf bit is one of the word that `leaf_at` names. Assumes nothing.
+-- `bitmap::position::test` meets its contract. The leaf bit is one of the word that `leaf_at` names. Assumes nothing.
 use borrow.Author.Needs.{needs}
 use borrow.Author.Tests.{le-leb, lt-leb}
 use mathlib.Core.Path.{_≡_, sym, ap, _∙_}
@@ -13,8 +13,8 @@ use Rattle.bitmap.specs.Answer.{given}
 use Rattle.bitmap.specs.Calls.{testSays}
 use Rattle.bitmap.proofs.Index.{low-lt, leaf-stored}
 use Rattle.bitmap.proofs.Refusals.{no, on}
-use Rattle.bitmap.proofs.cascade.test.Statement.{statement}
-use Rattle.bitmap.proofs.cascade.test.Tie as tie
+use Rattle.bitmap.proofs.position.test.Statement.{statement}
+use Rattle.bitmap.proofs.position.test.Tie as tie
 
 -- the bit is read
 module _ (c : tie.After-test) where
