@@ -24,6 +24,10 @@ pub cap-node : (k : ℕ) → cap (suc k) ≡ 16 * cap k
 unfolding cap
 cap-node k = refl
 
+-- a child's words by those of the map
+pub child-words : (k : ℕ) → words (suc k) / 16 ≡ words k
+child-words k = omega (arith, words-node k)
+
 -- a leaf word has 16 positions
 pub leaf-cap : {k : ℕ} → k ≡ 0 → cap k ≡ 16
 unfolding cap

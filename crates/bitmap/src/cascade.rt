@@ -39,16 +39,16 @@ pub fn for_range(c: Change, k: usize, s: &mut [u16], a: usize, b: usize)
     requires { ⌜ (k ≤ 6) × (length (now s) ≡ words k) × (a < b) × (b ≤ cap k) ⌝ }
     ensures { λ _. ⌜ now (s .exit) ≡ change c k (now (s .entry)) a b ⌝ }
 {
-    if k == 0 {
-        s[0] = word::change(c, s[0], a, b);
-        return;
-    }
-    if k == 1 {
+    if k <= 1 {
+        if k == 0 {
+            s[0] = word::change(c, s[0], a, b);
+            return;
+        }
         for_words(c, s, a, b);
         return;
     }
     let j = k - 1;
-    let size = sizes::words_of(j);
+    let size = sizes::child_words(s.len());
     let first = sizes::child_of(j, a);
     let last = sizes::child_of(j, b - 1);
     let from = 1 + first * size;

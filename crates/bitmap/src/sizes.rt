@@ -109,6 +109,13 @@ pub fn words_of(k: usize) -> usize
     BitAlloc256M::WORDS >> (24 - 4 * k)
 }
 
+// How many words each child has in a map of n words.
+pub fn child_words(n: usize) -> usize
+    ensures { λ r. ⌜ r ≡ n / 16 ⌝ }
+{
+    n >> 4
+}
+
 // Which child of level j the position p is in.
 pub fn child_of(j: usize, p: usize) -> usize
     requires { ⌜ j ≤ 5 ⌝ }

@@ -2,7 +2,7 @@
 -- children with a fill between them, by the laws of `Borders`. Assumes nothing.
 use mathlib.Core.Path.{_≡_, refl, sym, ap, _∙_}
 use mathlib.Core.List.{List}
-use Prim.Native.Nat.{ℕ, suc, _+_, _-_, _*_, _<_}
+use Prim.Native.Nat.{ℕ, suc, _+_, _-_, _*_, _/_, _<_}
 use native.Mathlib.Nat.{one-mul}
 use native.Mathlib.Omega.{arith}
 use lib.ListN.{length-set}
@@ -12,7 +12,7 @@ use borrow.Fn.Kinds.{In}
 use borrow.Fn.PlainCycle.{Measures, is, falls, and}
 use Rattle.bitmap.specs.Tree.{words, cap}
 use Rattle.bitmap.specs.Change.{change}
-use Rattle.bitmap.proofs.Levels.{words-pos, leaf-cap}
+use Rattle.bitmap.proofs.Levels.{words-pos, leaf-cap, child-words}
 use Rattle.bitmap.proofs.Rows.{part-before}
 use Rattle.bitmap.proofs.Changes.{change-word}
 use Rattle.bitmap.proofs.Parts.{back}
@@ -25,8 +25,8 @@ use Rattle.bitmap.proofs.cascade.+for_range.Lts-for_range as lts
 use Rattle.bitmap.proofs.cascade.fill.Reads as fill
 use Rattle.bitmap.proofs.cascade.for_words.Reads as for-words
 use Rattle.bitmap.proofs.sizes.child_of.Reads as child-of
+use Rattle.bitmap.proofs.sizes.child_words.Reads as child-words-of
 use Rattle.bitmap.proofs.sizes.start_of.Reads as start-of
-use Rattle.bitmap.proofs.sizes.words_of.Reads as words-of
 use Rattle.bitmap.proofs.word.change.Reads as word-change
 use Rattle.bitmap.proofs.word.change_borders.Reads as change-borders
 use Rattle.bitmap.proofs.word.with_bit.Reads as with-bit
@@ -43,7 +43,7 @@ abbrev asked : ℕ → In 1 kinds.ps
 asked t = and 1 kinds.ps (falls 1 kinds.ps _<_ level t) reads.Pre
 
 abbrev claims : ℕ → lts.Claims
-claims t = (word-change.Asked, word-change.Learnt, for-words.Asked, for-words.Learnt, words-of.Asked, words-of.Learnt, child-of.Asked, child-of.Learnt, start-of.Asked, start-of.Learnt, asked t, reads.Post, with-bit.Asked, with-bit.Learnt, fill.Asked, fill.Learnt, change-borders.Asked, change-borders.Learnt)
+claims t = (word-change.Asked, word-change.Learnt, for-words.Asked, for-words.Learnt, child-words-of.Asked, child-words-of.Learnt, child-of.Asked, child-of.Learnt, start-of.Asked, start-of.Learnt, asked t, reads.Post, with-bit.Asked, with-bit.Learnt, fill.Asked, fill.Learnt, change-borders.Asked, change-borders.Learnt)
 
 module _ (t : ℕ) where
   -- the two border children are known
@@ -52,13 +52,13 @@ module _ (t : ℕ) where
 
   module _ (c : Known) where
     abbrev entry : lts.Start (claims t) (given t) reads.Post
-    entry = c .before .before .before .before .before .before
+    entry = c .before .before .before .before .before
 
     abbrev j : ℕ
     j = entry .args .k - 1
 
     abbrev size : ℕ
-    size = c .before .before .words-of .result
+    size = c .before .before .child-words .result
 
     abbrev first : ℕ
     first = c .before .child-of .result
@@ -67,23 +67,26 @@ module _ (t : ℕ) where
     last = c .child-of2 .result
 
     up : suc j ≡ entry .args .k
-    up = level-below (c .before .before .before .before .if1 .left)
+    up = level-below (λ e. omega (arith, c .before .before .before .if1 .left))
 
     way : Borders j (entry .args .a) (entry .args .b) first last
     way = borders up (entry .pre .1 .2) (entry .pre .1 .3) (c .before .child-of .ensures) (c .child-of2 .ensures)
 
+    sized : size ≡ words j
+    sized = c .before .before .child-words .ensures ∙ ap (λ (n : ℕ). n / 16) (entry .pre .1 .1 ∙ ap words (sym up)) ∙ child-words j
+
     low-part : Entered j (entry .args .s .now) first size
-    low-part = enter up (entry .pre .1 .0) (entry .pre .1 .1) (c .before .before .words-of .ensures) (omega (arith, way))
+    low-part = enter up (entry .pre .1 .0) (entry .pre .1 .1) sized (omega (arith, way))
 
     high-part : Entered j (entry .args .s .now) last size
-    high-part = enter up (entry .pre .1 .0) (entry .pre .1 .1) (c .before .before .words-of .ensures) (way .below)
+    high-part = enter up (entry .pre .1 .0) (entry .pre .1 .1) sized (way .below)
 
     -- with the words s the change has reached child i
     abbrev At : ℕ → List ℕ → Type 0
     At i s = Reached (entry .args .c) j size (entry .args .s .now) (entry .args .a) (entry .args .b) first i s
 
     at-first : At first (entry .args .s .now)
-    at-first = reach-first (entry .args .c) way (low-part .size) (low-part .len) (c .before .before .before .before .before .slice-known .given 0 .fits)
+    at-first = reach-first (entry .args .c) way (low-part .size) (low-part .len) (c .before .before .before .before .slice-known .given 0 .fits)
 
   -- the part of the one child is back
   module _ (c : lts.After-s2 (claims t) (given t) reads.Post) where
@@ -157,27 +160,28 @@ module _ (t : ℕ) where
 pub +for-range-spec : {M : Type 1} → statement M
 +for-range-spec = close level λ t. lts.spec (claims t) (given t) reads.Post
     -- slice-read-change
-    (λ c. omega (arith, words-pos (c .before .before .before .args .k)))
-    -- change-requires
-    (λ c κs. omega (arith, leaf-cap (c .before .if1 .taken)))
-    -- slice-write-s
     (λ c. omega (arith, words-pos (c .before .before .before .before .args .k)))
+    -- change-requires
+    (λ c κs. omega (arith, leaf-cap (c .before .if2 .taken)))
+    -- slice-write-s
+    (λ c. omega (arith, words-pos (c .before .before .before .before .before .args .k)))
     -- same-length
     (λ c. simp length-set)
     -- returns
-    (λ c. let x = c .before .before .before .before in change-word (x .args .c) (x .args .s .now) (x .args .a) (x .args .b) _ (c .before .before .if1 .taken) (x .pre .1 .1) (c .change .ensures))
+    (λ c. let x = c .before .before .before .before .before in change-word (x .args .c) (x .args .s .now) (x .args .a) (x .args .b) _ (c .before .before .if2 .taken) (x .pre .1 .1) (c .change .ensures))
     -- for-words-requires
     (λ c κs. let x = c .before .before .before .before in
-    let e = c .before .if2 .taken in
+    let e : x .args .k ≡ 1 = omega (arith, c .before .before .if1 .taken, c .before .if2 .left) in
     (x .pre .1 .1 ∙ ap words e, x .pre .1 .2, omega (arith, x .pre .1 .3, ap cap e)))
     -- same-length-2
     (λ c. search needs)
     -- returns-2
     (λ c. let x = c .before .before .before .before .before .before .before in
-    c .before .before .for-words .ensures ∙ ap (λ (k : ℕ). change (x .args .c) k (x .args .s .now) (x .args .a) (x .args .b)) (sym (c .before .before .before .before .if2 .taken)))
+    let e : 1 ≡ x .args .k = omega (arith, c .before .before .before .before .before .if1 .taken, c .before .before .before .before .if2 .left) in
+    c .before .before .for-words .ensures ∙ ap (λ (k : ℕ). change (x .args .c) k (x .args .s .now) (x .args .a) (x .args .b)) e)
     -- sub-j
     (λ c. search needs)
-    -- words-of-requires
+    -- child-words-requires
     (λ c κs. search needs)
     -- child-of-requires
     (λ c κs. search needs)
@@ -201,9 +205,8 @@ pub +for-range-spec : {M : Type 1} → statement M
     (λ c. search needs)
     -- part-for-range-end
     (λ c. low-part t (c .before .before) .ends)
-    -- sub-for-range-2
+    -- sub-for-range-2 and sub-for-range-3
     (λ c. omega (arith, way t (c .before .before .before)))
-    -- sub-for-range-3
     (λ c. omega (arith, way t (c .before .before .before)))
     -- for-range-requires
     (λ c κs. let n = c .before .before .before in
@@ -225,11 +228,9 @@ pub +for-range-spec : {M : Type 1} → statement M
     (λ c. let e = c .before .before .before .before in
     let n = one t e in
     store-one (entry t n .args .c) (way t n) (up t n) (at-end t e) (e .before .before .before .if3 .taken) refl (c .with-bit .ensures))
-    -- mul-from2
+    -- mul-from2, add-from2 and add-to2
     (λ c. omega (arith, high-part t (c .before .before)))
-    -- add-from2
     (λ c. omega (arith, high-part t (c .before .before)))
-    -- add-to2
     (λ c. omega (arith, high-part t (c .before .before)))
     -- mul-for-range-2
     (λ c. omega (arith, low-part t (c .before .before)))
