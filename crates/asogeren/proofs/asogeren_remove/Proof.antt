@@ -1,52 +1,19 @@
 -- `asogeren::asogeren_remove` meets its contract: it passes on what `bitmap::remove` says and leaves. Assumes nothing.
 use borrow.Author.Needs.{needs}
-use mathlib.Core.Path.{sym, ap, _∙_}
-use Rattle.bitmap.specs.Answer.{changed}
-use Rattle.asogeren.proofs.Passed.{passed}
+use Rattle.asogeren.proofs.Passed.{passed-case}
 use Rattle.asogeren.proofs.asogeren_remove.Statement.{statement}
 use Rattle.asogeren.proofs.asogeren_remove.Tie as tie
 
-remove-requires : tie.Need-remove-requires
-remove-requires c κs = search needs
-
-enum-told : tie.Need-enum-told
-enum-told c = search needs
-
-of-value-requires : tie.Need-of-value-requires
-of-value-requires c κs = search needs
-
-enum-known-n : tie.Need-enum-known-n
-enum-known-n c = search needs
-
-of-refusal-requires : tie.Need-of-refusal-requires
-of-refusal-requires c κs = search needs
-
-same-length : tie.Need-same-length
-same-length c = search needs
-
-returns : tie.Need-returns
-returns c =
-    let e = c .before .before .before .before .before .remove .ensures in
-    (passed (cc) (e .0), e .1)
-
-same-length-2 : tie.Need-same-length-2
-same-length-2 c = search needs
-
-returns-2 : tie.Need-returns-2
-returns-2 c =
-    let e = c .before .before .before .before .before .before .remove .ensures in
-    (passed (c .of-refusal .ensures) (ap changed (sym (c .before .before .n .given .1)) ∙ e .0), e .1)
-
 pub asogeren-remove-spec : {M : Type 1} → statement M
-asogeren-remove-spec =
-    tie.close
-    (tie.spec
-    remove-requires
-    enum-told
-    of-value-requires
-    enum-known-n
-    of-refusal-requires
-    same-length
-    returns
-    same-length-2
-    returns-2)
+asogeren-remove-spec = tie.close (tie.spec
+    -- remove-requires, and of each case what is called
+    (λ c κs. search needs)
+    (λ c. search needs)
+    (λ c κs. search needs)
+    (λ c. search needs)
+    (λ c κs. search needs)
+    -- same-length and returns, of each case
+    (λ c. search needs)
+    (λ c. passed-case _ _ (c .before .enum-told .given .1) (c .of-value .ensures) (c .before .before .before .before .before .remove .ensures))
+    (λ c. search needs)
+    (λ c. passed-case _ _ (c .before .before .n .given .1) (c .of-refusal .ensures) (c .before .before .before .before .before .before .remove .ensures)))
