@@ -14,6 +14,7 @@ pub mod Borders
 pub mod Path
 pub mod Places
 pub mod Index
+pub mod LeafRows
 pub mod One
 pub mod Stages
 pub mod Climb

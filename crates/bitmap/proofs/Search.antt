@@ -7,7 +7,9 @@ use native.Mathlib.Nat.{eq-or-lt-of-le}
 use native.Mathlib.Decide.{decLe}
 use native.Mathlib.Numerals.{add-one}
 use native.Mathlib.Omega.{arith}
-use Rattle.bitmap.specs.Search.{firstFrom, all}
+use lib.Dec.{leb}
+use borrow.Author.Tests.{le-leb, lt-leb, leb-true, leb-false}
+use Rattle.bitmap.specs.Search.{firstFrom, none, all}
 
 -- ---- what a search finds, and that only it is found
 
@@ -130,6 +132,37 @@ first-shift f d a n =
   where
     back : (q : ℕ) → d + a ≤ q → q ≡ d + (q - d)
     back q l = omega arith
+
+-- ---- a test that holds at none of some places
+
+module _ (f : ℕ → Bool) (a b e : ℕ) (le : a ≤ b) (end : b ≤ e) where
+  -- it holds at one of the first of them
+  pub none-no : none f a b ≡ false → none f a e ≡ false
+  none-no h =
+      let l = leb-false b (firstFrom f a (b - a)) h in
+      lt-leb e (firstFrom f a (e - a)) (omega (arith, first-cut f a b e le end l))
+
+  -- or at none of them
+  pub none-on : none f a b ≡ true → none f a e ≡ none f b e
+  none-on h = ap (leb e) (first-rest f a b e le end (leb-true b (firstFrom f a (b - a)) h))
+
+-- there are none
+pub none-end : (f : ℕ → Bool) (a b : ℕ) → b ≤ a → none f a b ≡ true
+none-end f a b le = le-leb b (firstFrom f a (b - a)) (omega (arith, first-is f a (b - a) (a + (b - a)) refl .from))
+
+leb-shift : (d a b : ℕ) → leb (d + a) (d + b) ≡ leb a b
+leb-shift d a b = elim (decLe a b) [
+  | yes l ↦ le-leb (d + a) (d + b) (omega arith) ∙ sym (le-leb a b l)
+  | no l ↦ lt-leb (d + a) (d + b) (omega arith) ∙ sym (lt-leb a b (omega arith))
+]
+
+-- places that stand d further on
+pub none-shift : (f g : ℕ → Bool) (d a b : ℕ) → a ≤ b → ((q : ℕ) → a ≤ q → q < b → f (d + q) ≡ g q) → none f (d + a) (d + b) ≡ none g a b
+none-shift f g d a b le h =
+    let n : d + b - (d + a) ≡ b - a = omega arith in
+    ap (λ (m : ℕ). leb (d + b) (firstFrom f (d + a) m)) n
+    ∙ ap (leb (d + b)) (first-shift f d a (b - a) ∙ ap (λ (x : ℕ). d + x) (first-ext (λ q. f (d + q)) g a (b - a) (λ q l u. h q l (omega arith))))
+    ∙ leb-shift d b (firstFrom g a (b - a))
 
 -- ---- a search of the places from k up to n, one step at a time
 

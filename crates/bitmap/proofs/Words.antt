@@ -11,9 +11,9 @@ use lib.Pow.{pow-mono, pow-lt, pow-pos, shr-shr}
 use lib.Bits.{bitAnd, bitOr, and-lt, and-le-l, or-lt, and-mask}
 use lib.Dec.{eqb, leb·zero, eqb·zero-suc, eqb·suc-zero, eqb·suc-suc}
 use lib.Count.{trailingZeros, under}
-use borrow.Author.Tests.{lt-ltb, le-ltb, ltb-true, le-leb, leb-true}
+use borrow.Author.Tests.{eq-eqb, ne-eqb, lt-ltb, le-ltb, ltb-true, le-leb, lt-leb, leb-true}
 use Rattle.bitmap.specs.declared.cascade.Change.the-variants.{Remove}
-use Rattle.bitmap.specs.Search.{firstFrom}
+use Rattle.bitmap.specs.Search.{firstFrom, none}
 use Rattle.bitmap.specs.Bits.{bit, digit, wordOf, within}
 use Rattle.bitmap.specs.Change.{changeWord}
 use Rattle.bitmap.specs.Take.{lowestBit}
@@ -133,6 +133,13 @@ module _ (w a b : ℕ) (fits : w < 2 ^ 16) (le : a ≤ b) (small : b ≤ 16) whe
           rw (t .before i (leb-true a i (p .0)) below))
           (λ y. rw y (and-false (bit w i)))
           (sort (within a b i))
+
+  -- which is what the test says
+  pub mask-clear : eqb masked 0 ≡ none (bit w) a b
+  mask-clear = elim (ℕ-discrete masked 0) [
+    | yes e ↦ eq-eqb masked 0 e ∙ sym (le-leb b first (mask-none e))
+    | no ne ↦ ne-eqb masked 0 ne ∙ sym (lt-leb b first (mask-some ne))
+  ]
 
 -- ---- a count of zeros
 

@@ -8,6 +8,7 @@ ghost use Rattle.bitmap.specs.Calls.{answer, after, allocSays, allocAfte
 mod answers;
 mod cascade;
 mod contiguous;
+mod leaf;
 mod position;
 mod sizes;
 mod stretch;

@@ -3,7 +3,7 @@ ghost use mathlib.Core.Path.{_≡_};
 ghost use mathlib.Core.Bool.{false, cond};
 ghost use lib.Dec.{eqb};
 ghost use Prim.Native.Nat.{_+_, _-_, _≤_, _<_};
-ghost use Rattle.bitmap.specs.Search.{firstFrom};
+ghost use Rattle.bitmap.specs.Search.{firstFrom, none};
 ghost use Rattle.bitmap.specs.Bits.{bit, wordOf, within};
 ghost use Rattle.bitmap.specs.Change.{frees, changeWord};
 ghost use Rattle.bitmap.specs.Take.{lowestBit};
@@ -35,6 +35,14 @@ pub fn mask(start: usize, end: usize) -> u16
     ensures { λ r. ⌜ r ≡ wordOf (within start end) ⌝ }
 {
     ((1u32 << end) - (1u32 << start)) as u16
+}
+
+// Whether none of the bits from start up to end is set.
+pub fn clear(w: u16, start: usize, end: usize) -> bool
+    requires { ⌜ (start ≤ end) × (end ≤ 16) ⌝ }
+    ensures { λ r. ⌜ r ≡ none (bit w) start end ⌝ }
+{
+    w & mask(start, end) == 0
 }
 
 // The word with the bits from start up to end set, or cleared.
