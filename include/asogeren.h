@@ -11,7 +11,7 @@
  * On a map that is not true a call does the same steps on the words as they stand.
  *
  * Answers. Each call returns by value two numbers: refusal 0 and the call's value, or the refusal's number and value 0. A refusal
- * leaves every word and byte as lent, save ASOGEREN_ALREADY_FREE from asogeren_dealloc_contiguous. Where more than one refusal
+ * leaves every word and byte as lent, save ASOGEREN_ALREADY_FREE from asogeren_dealloc_contiguous_old. Where more than one refusal
  * fits, the first in the order given with the call is returned. Every call is total: any count and any numbers are answered, and
  * which answer and which words afterwards is proved (crates/asogeren), for every input.
  *
@@ -110,13 +110,19 @@ struct asogeren_answer asogeren_next(const uint16_t *store, size_t store_count, 
 struct asogeren_answer asogeren_dealloc(uint16_t *store, size_t store_count, size_t key);
 
 /*
- * Gives the size positions from base on back. Value: 0.
+ * Gives the size positions from base on back: all of them, or none. Value: 0.
  * Refusals: ASOGEREN_WORD_COUNT; ASOGEREN_PAST_END where base + size, taken exactly, is more than the positions; ASOGEREN_NO_SIZE
- * where size is 0; ASOGEREN_ALREADY_FREE where the leaf bit of one of them is set. This last one may change words: leaf words are
- * visited in rising order, and in the first that has some of the run free already, and in all later ones, nothing is freed; the
- * earlier ones have been freed. The summary bits of the run are recomputed.
+ * where size is 0; ASOGEREN_ALREADY_FREE where the leaf bit of one of them is set.
  */
 struct asogeren_answer asogeren_dealloc_contiguous(uint16_t *store, size_t store_count, size_t base, size_t size);
+
+/*
+ * Gives the size positions from base on back, the Rust crate's way. Value: 0.
+ * Refusals: as asogeren_dealloc_contiguous. ASOGEREN_ALREADY_FREE may change words here: leaf words are visited in rising order,
+ * and in the first that has some of the run free already, and in all later ones, nothing is freed; the earlier ones have been
+ * freed. The summary bits of the run are recomputed.
+ */
+struct asogeren_answer asogeren_dealloc_contiguous_old(uint16_t *store, size_t store_count, size_t base, size_t size);
 
 /*
  * Makes the positions start to end - 1 free; some or all may be so already. Value: 0.

@@ -36,6 +36,10 @@ int main(void)
         puts("(it was free already)");
     told("64 pages back", asogeren_dealloc_contiguous(pages, count, 64, 64));
 
+    /* page 528 is free already: by default nothing is given back, and the old way pages 512 to 527 are */
+    told("17 pages from 512 on back", asogeren_dealloc_contiguous(pages, count, 512, 17));
+    told("the first free page from 512 on", asogeren_next(pages, count, 512));
+    told("17 pages from 512 on back, the old way", asogeren_dealloc_contiguous_old(pages, count, 512, 17));
     told("the first free page from 512 on", asogeren_next(pages, count, 512));
     told("1,000 pages", asogeren_alloc_contiguous(pages, count, 1000, 0));
     return 0;

@@ -112,10 +112,6 @@ static void the_refusals_of_changes(void)
     REFUSES(asogeren_dealloc(MAP, 256), ASOGEREN_PAST_END);
     REFUSES(asogeren_dealloc(MAP, SIZE_MAX), ASOGEREN_PAST_END);
     REFUSES(asogeren_dealloc(MAP, 20), ASOGEREN_ALREADY_FREE);
-    REFUSES(asogeren_dealloc_contiguous(MAP, 257, 0), ASOGEREN_PAST_END);
-    REFUSES(asogeren_dealloc_contiguous(MAP, 255, 2), ASOGEREN_PAST_END);
-    REFUSES(asogeren_dealloc_contiguous(MAP, 1, SIZE_MAX), ASOGEREN_PAST_END);
-    REFUSES(asogeren_dealloc_contiguous(MAP, 256, 0), ASOGEREN_NO_SIZE);
     REFUSES(asogeren_insert(MAP, 9, 8), ASOGEREN_PAST_END);
     REFUSES(asogeren_insert(MAP, 0, 257), ASOGEREN_PAST_END);
     REFUSES(asogeren_insert(MAP, 0, 0), ASOGEREN_NO_SIZE);
@@ -124,10 +120,60 @@ static void the_refusals_of_changes(void)
     REFUSES(asogeren_remove(MAP, 256, 256), ASOGEREN_NO_SIZE);
     REFUSES(asogeren_test(MAP, 256), ASOGEREN_PAST_END);
     HOLDS(same());
+}
 
-    /* the one refusal that may change words: the leaf word before the one with a free position has been freed */
+/* What both run give-backs do alike. */
+static void a_run_given_back(struct asogeren_answer (*give)(uint16_t *, size_t, size_t, size_t))
+{
+    memset(map, 0, sizeof map);
+    GIVES(give(MAP, 14, 6), 0);
+    HOLDS(map[0] == 0x0003 && map[1] == 0xc000 && map[2] == 0x000f);
+    keep();
+    REFUSES(give(MAP, 257, 0), ASOGEREN_PAST_END);
+    REFUSES(give(MAP, 255, 2), ASOGEREN_PAST_END);
+    REFUSES(give(MAP, 19, 238), ASOGEREN_PAST_END); /* before 6: position 19 is free */
+    REFUSES(give(MAP, 1, SIZE_MAX), ASOGEREN_PAST_END);
+    REFUSES(give(MAP, 256, 0), ASOGEREN_NO_SIZE);
+    REFUSES(give(MAP, 14, 0), ASOGEREN_NO_SIZE);
+    REFUSES(give(MAP, 15, 1), ASOGEREN_ALREADY_FREE);
+    REFUSES(give(MAP, 8, 248), ASOGEREN_ALREADY_FREE);
+    HOLDS(same());
+
+    /* on a map that is not true a success makes the words that insert makes: no bit outside the run is mended */
+    memset(map, 0, sizeof map);
+    map[0] = 0x8002;
+    map[3] = 0x0001;
+    keep();
+    GIVES(asogeren_insert(kept, ASOGEREN_BITALLOC256_WORDS, 14, 20), 0);
+    GIVES(give(MAP, 14, 6), 0);
+    HOLDS(same());
+    HOLDS(map[0] == 0x8003 && map[1] == 0xc000 && map[2] == 0x000f && map[3] == 0x0001);
+}
+
+/* A run whose second leaf word has a free position: by default no word changes, and the crate's way has freed the first. */
+static void a_run_partly_free(void)
+{
+    keep();
     REFUSES(asogeren_dealloc_contiguous(MAP, 0, 32), ASOGEREN_ALREADY_FREE);
+    HOLDS(same());
+    REFUSES(asogeren_dealloc_contiguous_old(MAP, 0, 32), ASOGEREN_ALREADY_FREE);
     HOLDS(map[0] == 0x0003 && map[1] == 0xffff && map[2] == 0x0010);
+}
+
+static void run_give_backs(void)
+{
+    a_run_given_back(asogeren_dealloc_contiguous);
+    a_run_given_back(asogeren_dealloc_contiguous_old);
+
+    memset(map, 0, sizeof map);
+    GIVES(asogeren_insert(MAP, 20, 21), 0);
+    HOLDS(map[0] == 0x0002 && map[1] == 0x0000 && map[2] == 0x0010);
+    a_run_partly_free();
+
+    /* the leaf bit decides, also where the map is not true and its own word says nothing of it */
+    memset(map, 0, sizeof map);
+    map[2] = 0x0010;
+    a_run_partly_free();
 }
 
 static void a_map_that_is_not_true(void)
@@ -194,6 +240,7 @@ static void every_call_refuses(uint16_t *store, size_t count)
     REFUSES(asogeren_next(store, count, SIZE_MAX), ASOGEREN_WORD_COUNT);
     REFUSES(asogeren_dealloc(store, count, SIZE_MAX), ASOGEREN_WORD_COUNT);
     REFUSES(asogeren_dealloc_contiguous(store, count, SIZE_MAX, SIZE_MAX), ASOGEREN_WORD_COUNT);
+    REFUSES(asogeren_dealloc_contiguous_old(store, count, SIZE_MAX, SIZE_MAX), ASOGEREN_WORD_COUNT);
     REFUSES(asogeren_insert(store, count, 1, 0), ASOGEREN_WORD_COUNT);
     REFUSES(asogeren_remove(store, count, 0, 0), ASOGEREN_WORD_COUNT);
     REFUSES(asogeren_is_empty(store, count), ASOGEREN_WORD_COUNT);
@@ -252,6 +299,7 @@ int main(void)
     the_calls();
     the_refusals_of_takes();
     the_refusals_of_changes();
+    run_give_backs();
     a_map_that_is_not_true();
     images();
     word_counts();

@@ -24,8 +24,8 @@
 //! # Ok::<(), Refusal>(())
 //! ```
 //!
-//! A refusal changes nothing, save [`Refusal::AlreadyFree`] from [`Map::dealloc_contiguous`]. Where more than one refusal fits, the
-//! first in the order given with the call is returned; [`Refusal::WordCount`] comes first everywhere.
+//! A refusal changes nothing, save [`Refusal::AlreadyFree`] from [`Map::dealloc_contiguous_old`]. Where more than one refusal fits,
+//! the first in the order given with the call is returned; [`Refusal::WordCount`] comes first everywhere.
 #![no_std]
 #![warn(missing_docs)]
 
@@ -161,13 +161,11 @@ impl<'a> Map<'a> {
         unsafe { sys::asogeren_dealloc(self.words.as_mut_ptr(), self.words.len(), key) }.done()
     }
 
-    /// Gives the `size` positions from `base` on back.
+    /// Gives the `size` positions from `base` on back: all of them, or none.
     ///
     /// # Errors
     /// [`PastEnd`](Refusal::PastEnd) where `base` and `size` together are more than the positions; [`NoSize`](Refusal::NoSize)
-    /// where `size` is 0; [`AlreadyFree`](Refusal::AlreadyFree) where the leaf bit of one of them is set. This last one may change
-    /// words: leaf words are visited in rising order, and in the first that has some of the run free already, and in all later
-    /// ones, nothing is freed; the earlier ones have been freed.
+    /// where `size` is 0; [`AlreadyFree`](Refusal::AlreadyFree) where the leaf bit of one of them is set.
     ///
     /// ```
     /// use asogeren::{BitAlloc256, Map, Refusal};
@@ -176,12 +174,35 @@ impl<'a> Map<'a> {
     /// let mut map = Map::new(&mut words);
     /// map.insert(20..21)?;
     /// assert_eq!(map.dealloc_contiguous(0, 32), Err(Refusal::AlreadyFree));
-    /// assert_eq!(map.words()[..3], [0x0003, 0xffff, 0x0010]);
-    /// assert_eq!(map.dealloc_contiguous(21, 11), Ok(()));
+    /// assert_eq!(map.words()[..3], [0x0002, 0x0000, 0x0010]);
+    /// assert_eq!(map.dealloc_contiguous(0, 20), Ok(()));
+    /// assert_eq!(map.words()[..3], [0x0003, 0xffff, 0x001f]);
     /// # Ok::<(), Refusal>(())
     /// ```
     pub fn dealloc_contiguous(&mut self, base: usize, size: usize) -> Result<(), Refusal> {
         unsafe { sys::asogeren_dealloc_contiguous(self.words.as_mut_ptr(), self.words.len(), base, size) }.done()
+    }
+
+    /// Gives the `size` positions from `base` on back, as the crate bitmap-allocator does it.
+    ///
+    /// # Errors
+    /// As [`dealloc_contiguous`](Self::dealloc_contiguous). [`AlreadyFree`](Refusal::AlreadyFree) may change words here: leaf words
+    /// are visited in rising order, and in the first that has some of the run free already, and in all later ones, nothing is
+    /// freed; the earlier ones have been freed.
+    ///
+    /// ```
+    /// use asogeren::{BitAlloc256, Map, Refusal};
+    ///
+    /// let mut words = [0; BitAlloc256::WORDS];
+    /// let mut map = Map::new(&mut words);
+    /// map.insert(20..21)?;
+    /// assert_eq!(map.dealloc_contiguous_old(0, 32), Err(Refusal::AlreadyFree));
+    /// assert_eq!(map.words()[..3], [0x0003, 0xffff, 0x0010]);
+    /// assert_eq!(map.dealloc_contiguous_old(21, 11), Ok(()));
+    /// # Ok::<(), Refusal>(())
+    /// ```
+    pub fn dealloc_contiguous_old(&mut self, base: usize, size: usize) -> Result<(), Refusal> {
+        unsafe { sys::asogeren_dealloc_contiguous_old(self.words.as_mut_ptr(), self.words.len(), base, size) }.done()
     }
 
     /// Makes the positions of the range free; some or all may be so already.

@@ -43,6 +43,7 @@ extern "C" {
     pub fn asogeren_next(store: *const u16, store_count: usize, key: usize) -> Answer;
     pub fn asogeren_dealloc(store: *mut u16, store_count: usize, key: usize) -> Answer;
     pub fn asogeren_dealloc_contiguous(store: *mut u16, store_count: usize, base: usize, size: usize) -> Answer;
+    pub fn asogeren_dealloc_contiguous_old(store: *mut u16, store_count: usize, base: usize, size: usize) -> Answer;
     pub fn asogeren_insert(store: *mut u16, store_count: usize, start: usize, end: usize) -> Answer;
     pub fn asogeren_remove(store: *mut u16, store_count: usize, start: usize, end: usize) -> Answer;
     pub fn asogeren_is_empty(store: *const u16, store_count: usize) -> Answer;

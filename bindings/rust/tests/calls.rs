@@ -60,6 +60,7 @@ fn a_word_count_that_is_none_of_the_seven() {
         assert_eq!(map.next(0), Err(WordCount));
         assert_eq!(map.dealloc(usize::MAX), Err(WordCount));
         assert_eq!(map.dealloc_contiguous(usize::MAX, usize::MAX), Err(WordCount));
+        assert_eq!(map.dealloc_contiguous_old(usize::MAX, usize::MAX), Err(WordCount));
         assert_eq!(map.insert(0..0), Err(WordCount));
         assert_eq!(map.remove(0..usize::MAX), Err(WordCount));
         assert_eq!(map.is_empty(), Err(WordCount));
@@ -92,10 +93,6 @@ fn the_other_refusals() {
     assert_eq!(map.next(usize::MAX), Err(NoneFree));
     assert_eq!(map.dealloc(256), Err(PastEnd));
     assert_eq!(map.dealloc(17), Err(AlreadyFree));
-    assert_eq!(map.dealloc_contiguous(257, 0), Err(PastEnd));
-    assert_eq!(map.dealloc_contiguous(1, usize::MAX), Err(PastEnd));
-    assert_eq!(map.dealloc_contiguous(256, 0), Err(NoSize));
-    assert_eq!(map.dealloc_contiguous(17, 2), Err(AlreadyFree));
     assert_eq!(map.insert(9..8), Err(PastEnd));
     assert_eq!(map.insert(0..257), Err(PastEnd));
     assert_eq!(map.insert(0..0), Err(NoSize));
@@ -110,6 +107,55 @@ fn the_other_refusals() {
     let mut map = Map::new(&mut untrue);
     assert_eq!(map.alloc(), Err(Untrue));
     assert_eq!(map.check(), Ok(false));
+}
+
+#[test]
+fn run_give_backs() {
+    a_run_given_back(|map, base, size| map.dealloc_contiguous(base, size));
+    a_run_given_back(|map, base, size| map.dealloc_contiguous_old(base, size));
+}
+
+/// What both do alike.
+fn a_run_given_back(give: fn(&mut Map, usize, usize) -> Result<(), Refusal>) {
+    let mut store = [0; BitAlloc256::WORDS];
+    let mut map = Map::new(&mut store);
+    assert_eq!(give(&mut map, 14, 6), Ok(()));
+    assert_eq!(map.words()[..4], [0x0003, 0xc000, 0x000f, 0]);
+    let before = map.words().to_vec();
+    assert_eq!(give(&mut map, 257, 0), Err(PastEnd));
+    assert_eq!(give(&mut map, 255, 2), Err(PastEnd));
+    assert_eq!(give(&mut map, 19, 238), Err(PastEnd)); // before 6: position 19 is free
+    assert_eq!(give(&mut map, 1, usize::MAX), Err(PastEnd));
+    assert_eq!(give(&mut map, 256, 0), Err(NoSize));
+    assert_eq!(give(&mut map, 14, 0), Err(NoSize));
+    assert_eq!(give(&mut map, 15, 1), Err(AlreadyFree));
+    assert_eq!(give(&mut map, 8, 248), Err(AlreadyFree));
+    assert_eq!(map.words(), before);
+
+    // on a map that is not true a success makes the words that insert makes: no bit outside the run is mended
+    let mut untrue = [0; BitAlloc256::WORDS];
+    (untrue[0], untrue[3]) = (0x8002, 0x0001);
+    let mut inserted = untrue;
+    assert_eq!(Map::new(&mut inserted).insert(14..20), Ok(()));
+    assert_eq!(give(&mut Map::new(&mut untrue), 14, 6), Ok(()));
+    assert_eq!(untrue, inserted);
+    assert_eq!(untrue[..4], [0x8003, 0xc000, 0x000f, 0x0001]);
+}
+
+#[test]
+fn a_run_that_is_partly_free() {
+    // Position 20 is free. Its leaf bit decides, also where the map is not true and its own word says nothing of it.
+    for own in [0x0002, 0x0000] {
+        let mut store = [0; BitAlloc256::WORDS];
+        (store[0], store[2]) = (own, 0x0010);
+        let before = store;
+        let mut map = Map::new(&mut store);
+        assert_eq!(map.dealloc_contiguous(0, 32), Err(AlreadyFree));
+        assert_eq!(map.words(), before);
+        assert_eq!(map.dealloc_contiguous_old(0, 32), Err(AlreadyFree));
+        assert_eq!(map.words()[..3], [0x0003, 0xffff, 0x0010]);
+        assert!(map.words()[3..].iter().all(|&w| w == 0));
+    }
 }
 
 #[test]
@@ -193,7 +239,8 @@ impl Model {
         Ok(())
     }
 
-    fn dealloc_contiguous(&mut self, base: usize, size: usize) -> Result<(), Refusal> {
+    /// The first position of the run that is free, where the numbers are those of a run.
+    fn first_free(&self, base: usize, size: usize) -> Result<Option<usize>, Refusal> {
         let end = base + size;
         if end > self.0.len() {
             return Err(PastEnd);
@@ -201,9 +248,20 @@ impl Model {
         if size == 0 {
             return Err(NoSize);
         }
-        let free = (base..end).find(|&p| self.0[p]);
+        Ok((base..end).find(|&p| self.0[p]))
+    }
+
+    fn dealloc_contiguous(&mut self, base: usize, size: usize) -> Result<(), Refusal> {
+        if self.first_free(base, size)?.is_some() {
+            return Err(AlreadyFree);
+        }
+        self.set(base, base + size, true)
+    }
+
+    fn dealloc_contiguous_old(&mut self, base: usize, size: usize) -> Result<(), Refusal> {
+        let free = self.first_free(base, size)?;
         // the crate's way: what stands before the word of the first free one is freed all the same
-        let stop = free.map_or(end, |p| base.max(p - p % 16));
+        let stop = free.map_or(base + size, |p| base.max(p - p % 16));
         self.0[base..stop].fill(true);
         free.map_or(Ok(()), |_| Err(AlreadyFree))
     }
@@ -229,7 +287,7 @@ fn beside_a_plain_model() {
         for _ in 0..4000 {
             let (a, b) = (random(cap + 2), random(cap + 2));
             let (size, align) = (random(40), random(6));
-            match random(9) {
+            match random(10) {
                 0 => {
                     let first = model.0.iter().position(|&free| free);
                     assert_eq!(map.alloc(), first.ok_or(NoneFree));
@@ -261,7 +319,8 @@ fn beside_a_plain_model() {
                     }
                 }
                 6 => assert_eq!(map.dealloc_contiguous(a, size), model.dealloc_contiguous(a, size)),
-                7 => assert_eq!(map.next(a), (a..cap).find(|&p| model.0[p]).ok_or(NoneFree)),
+                7 => assert_eq!(map.dealloc_contiguous_old(a, size), model.dealloc_contiguous_old(a, size)),
+                8 => assert_eq!(map.next(a), (a..cap).find(|&p| model.0[p]).ok_or(NoneFree)),
                 _ => assert_eq!(map.test(a), model.0.get(a).copied().ok_or(PastEnd)),
             }
             assert_eq!(map.is_empty(), Ok(model.0.iter().all(|&free| !free)));

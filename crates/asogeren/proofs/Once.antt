@@ -18,6 +18,8 @@ use Rattle.asogeren.proofs.asogeren_dealloc as dealloc
 use Rattle.asogeren.proofs.asogeren_dealloc.Reads as dealloc-reads
 use Rattle.asogeren.proofs.asogeren_dealloc_contiguous as dealloc-contiguous
 use Rattle.asogeren.proofs.asogeren_dealloc_contiguous.Reads as dealloc-contiguous-reads
+use Rattle.asogeren.proofs.asogeren_dealloc_contiguous_old as dealloc-contiguous-old
+use Rattle.asogeren.proofs.asogeren_dealloc_contiguous_old.Reads as dealloc-contiguous-old-reads
 use Rattle.asogeren.proofs.asogeren_insert as insert
 use Rattle.asogeren.proofs.asogeren_insert.Reads as insert-reads
 use Rattle.asogeren.proofs.asogeren_remove as remove
@@ -69,6 +71,9 @@ dealloc-once κs a r₁ r₂ w₁ w₂ p q = once (λ l. (l, w₁ .1)) p q
 
 pub dealloc-contiguous-once : OneAnswer dealloc-contiguous.ended dealloc-contiguous-reads.Post
 dealloc-contiguous-once κs a r₁ r₂ w₁ w₂ p q = once (λ l. (l, w₁ .1)) p q
+
+pub dealloc-contiguous-old-once : OneAnswer dealloc-contiguous-old.ended dealloc-contiguous-old-reads.Post
+dealloc-contiguous-old-once κs a r₁ r₂ w₁ w₂ p q = once (λ l. (l, w₁ .1)) p q
 
 pub insert-once : OneAnswer insert.ended insert-reads.Post
 insert-once κs a r₁ r₂ w₁ w₂ p q = once (λ l. (l, w₁ .1)) p q

@@ -3,6 +3,7 @@
 ghost use mathlib.Core.Path.{_≡_};
 ghost use Rattle.bitmap.specs.declared.cascade.Change.the-variants.{Insert, Remove};
 ghost use Rattle.bitmap.specs.declared.contiguous.Base.the-variants.{Any, At};
+ghost use Rattle.bitmap.specs.declared.contiguous.Way.the-variants.{Whole, Old};
 ghost use Rattle.bitmap.specs.Calls.{answer, after, allocSays, allocAfter, runSays, runAfter, nextSays, giveSays, giveAfter, giveRunSays, giveRunAfter, rangeSays, rangeAfter, emptySays, testSays, checkSays};
 ghost use Rattle.image.specs.Calls.{writeSays, writeAfter, readSays, readAfter};
 ghost use Rattle.asogeren.specs.Crossed.{crossed};
@@ -66,13 +67,26 @@ pub extern "C" fn asogeren_dealloc(store: &mut [u16], key: usize) -> Answer
     crossing::from_changed(bitmap::dealloc(store, key))
 }
 
-// Gives size positions from base on back; where one was free already, the leaf words before its word are freed.
+// Gives size positions from base on back: all of them, or none where one was free already.
 #[no_mangle]
 pub extern "C" fn asogeren_dealloc_contiguous(store: &mut [u16], base: usize, size: usize) -> Answer
     ensures { λ r. ⌜ r ≡ crossed (answer (giveRunSays base size) (now (store .entry))) ⌝ }
-    ensures { λ _. ⌜ now (store .exit) ≡ after (giveRunAfter base size) (now (store .entry)) ⌝ }
+    ensures { λ _. ⌜ now (store .exit) ≡ after (giveRunAfter Whole base size) (now (store .entry)) ⌝ }
 {
     crossing::from_changed(bitmap::dealloc_contiguous(store, base, size))
+}
+
+// The crate's way: where one was free already, the leaf words before its word are freed all the same.
+#[no_mangle]
+pub extern "C" fn asogeren_dealloc_contiguous_old(
+    store: &mut [u16],
+    base: usize,
+    size: usize,
+) -> Answer
+    ensures { λ r. ⌜ r ≡ crossed (answer (giveRunSays base size) (now (store .entry))) ⌝ }
+    ensures { λ _. ⌜ now (store .exit) ≡ after (giveRunAfter Old base size) (now (store .entry)) ⌝ }
+{
+    crossing::from_changed(bitmap::dealloc_contiguous_old(store, base, size))
 }
 
 // Makes the positions from start up to end free.

@@ -1,4 +1,4 @@
--- What a run give-back does: it frees the run up to the leaf word in which the first free position stands. Assumes nothing.
+-- What the crate's run give-back does: it frees the run up to the leaf word in which the first free position stands. Assumes nothing.
 use mathlib.Core.Path.{_≡_, refl, sym, ap, ap₂, _∙_}
 use mathlib.Core.Bool.{Bool, true, false, cond, _&&_, true≢false}
 use mathlib.Core.Logic.{⊎-elim}

@@ -1,5 +1,5 @@
--- The laws of a run give-back: how it goes by a map's children, how a loop over them knows whether to go on, and that a run of which
--- none is free is freed whole. Assumes nothing.
+-- The laws of the crate's run give-back: how it goes by a map's children, how a loop over them knows whether to go on, and that a run of
+-- which none is free is freed whole; and those of the one that is all or nothing. Assumes nothing.
 use mathlib.Core.Path.{_≡_, refl, sym, ap, ap₂, _∙_}
 use mathlib.Core.Bool.{Bool, true, false, cond, _&&_, and-false}
 use mathlib.Core.List.{List}
@@ -13,10 +13,11 @@ use lib.ListN.{length}
 use lib.Dec.{leb, ltb}
 use borrow.Author.Tests.{lt-ltb, le-ltb, le-leb, lt-leb, leb-true, leb-false, ltb-true}
 use Rattle.bitmap.specs.declared.cascade.Change.the-variants.{Insert}
+use Rattle.bitmap.specs.declared.contiguous.Way.the-variants.{Whole}
 use Rattle.bitmap.specs.Bits.{wordOf, within}
 use Rattle.bitmap.specs.Tree.{words, cap, own, child, replaced, renew, leaf?}
 use Rattle.bitmap.specs.Change.{low, high, visits, change}
-use Rattle.bitmap.specs.GiveBack.{firstLeaf, giveBack}
+use Rattle.bitmap.specs.GiveBack.{firstLeaf, giveBack, givenBack}
 use Rattle.bitmap.proofs.Search.{First, and-both}
 use Rattle.bitmap.proofs.Words.{mask-some, mask-none}
 use Rattle.bitmap.proofs.Levels.{cap-pos, leaf-cap}
@@ -175,3 +176,15 @@ give-all (suc k) s a b l f =
       | yes v ↦ rw (lt-ltb (low (cap k) a i) (high (cap k) b i) v) (le-leb (i * cap k) (firstLeaf (suc k) s a b) (omega (arith, visited-start (cap k) (cap-pos k) a b i v)))
       | no v ↦ rw (le-ltb (low (cap k) a i) (high (cap k) b i) (omega arith))
     ]
+
+-- ---- all or nothing
+
+module _ (k : ℕ) (s : List ℕ) (a b : ℕ) where
+  -- a leaf bit of the run is set
+  pub give-none : leb b (firstLeaf k s a b) ≡ false → (false ≡ leb b (firstLeaf k s a b)) × (s ≡ givenBack Whole k s a b)
+  give-none e = (sym e, rw (lt-ltb (firstLeaf k s a b) b (leb-false b (firstLeaf k s a b) e)))
+
+  -- or none is
+  pub give-whole : {t : List ℕ} → t ≡ change Insert k s a b → leb b (firstLeaf k s a b) ≡ true
+      → (true ≡ leb b (firstLeaf k s a b)) × (t ≡ givenBack Whole k s a b)
+  give-whole et e = (sym e, rw (le-ltb (firstLeaf k s a b) b (leb-true b (firstLeaf k s a b) e)) et)

@@ -9,6 +9,8 @@ use Rattle.bitmap.specs.declared.cascade.Change.{Change}
 use Rattle.bitmap.specs.declared.cascade.Change.the-variants.{Insert, Remove}
 use Rattle.bitmap.specs.declared.contiguous.Base.{Base}
 use Rattle.bitmap.specs.declared.contiguous.Base.the-variants.{Any, At}
+use Rattle.bitmap.specs.declared.contiguous.Way.{Way}
+use Rattle.bitmap.specs.declared.contiguous.Way.the-variants.{Whole, Old}
 use Rattle.bitmap.specs.Search.{firstFrom}
 use Rattle.bitmap.specs.Bits.{digit}
 use Rattle.bitmap.specs.Tree.{words, cap, own, leaf?, free?, true?}
@@ -92,14 +94,15 @@ rangeSays a b k s = ranged a b k (given 0)
 abbrev pub rangeAfter : Change → ℕ → ℕ → ℕ → List ℕ → List ℕ
 rangeAfter c a b k s = settle (rangeSays a b k s) s (λ _. change c k s a b)
 
--- ---- dealloc_contiguous
+-- ---- dealloc_contiguous and dealloc_contiguous_old
 
 abbrev pub giveRunSays : ℕ → ℕ → ℕ → List ℕ → Said
 giveRunSays base size k s =
     ranged base (base + size) k (refuse 6 (ltb (firstLeaf k s base (base + size)) (base + size)) (given 0))
 
-abbrev pub giveRunAfter : ℕ → ℕ → ℕ → List ℕ → List ℕ
-giveRunAfter base size k s = settle (rangeSays base (base + size) k s) s (λ _. giveBack k s base (base + size))
+abbrev pub giveRunAfter : Way → ℕ → ℕ → ℕ → List ℕ → List ℕ
+giveRunAfter Whole base size k s = settle (giveRunSays base size k s) s (λ _. change Insert k s base (base + size))
+giveRunAfter Old base size k s = settle (rangeSays base (base + size) k s) s (λ _. giveBack k s base (base + size))
 
 -- ---- is_empty, test and check
 

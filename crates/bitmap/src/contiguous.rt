@@ -1,4 +1,4 @@
-// Aligned runs: finding one, checking one at a base, and the crate's run give-back. Over a map of level k, as cascade.rt.
+// Aligned runs: finding one, checking one at a base, and giving one back. Over a map of level k, as cascade.rt.
 ghost use mathlib.Core.Path.{_≡_};
 ghost use Prim.Native.Nat.{_+_, _-_, _*_, _/_, _^_, min, _≤_, _<_};
 ghost use lib.Dec.{leb};
@@ -6,13 +6,14 @@ ghost use lib.ListN.{length};
 ghost use Rattle.bitmap.specs.declared.contiguous.Base.the-variants.{Any, At};
 ghost use Rattle.bitmap.specs.Tree.{words, cap};
 ghost use Rattle.bitmap.specs.Run.{aligned};
-ghost use Rattle.bitmap.specs.GiveBack.{firstLeaf, giveBack};
+ghost use Rattle.bitmap.specs.GiveBack.{firstLeaf, giveBack, givenBack};
 ghost use Rattle.bitmap.specs.Answer.{taken};
 ghost use Rattle.bitmap.specs.Calls.{misfit, allocSays, allocAfter, runSays, runAfter};
 use crate::answers::Refusal;
 use crate::answers::Taken;
 use crate::cascade;
 use crate::cascade::Change;
+use crate::leaf;
 use crate::position;
 use crate::sizes;
 use crate::stretch;
@@ -22,6 +23,12 @@ use crate::word;
 pub enum Base {
     Any,
     At(usize),
+}
+
+// How a run is given back: whole or not at all, or the crate's way.
+pub enum Way {
+    Whole,
+    Old,
 }
 
 // The lowest multiple of 2^align_log2 that is base or more.
@@ -177,8 +184,26 @@ pub fn alloc_one(k: usize, s: &mut [u16]) -> Taken
     }
 }
 
+// Gives the positions from a up to b back, one way or the other: whether none of them was free.
+pub fn dealloc_contiguous(way: Way, k: usize, s: &mut [u16], a: usize, b: usize) -> bool
+    requires { ⌜ (k ≤ 6) × (length (now s) ≡ words k) × (a < b) × (b ≤ cap k) ⌝ }
+    ensures { λ r. ⌜ r ≡ leb b (firstLeaf k (now (s .entry)) a b) ⌝ }
+    ensures { λ _. ⌜ now (s .exit) ≡ givenBack way k (now (s .entry)) a b ⌝ }
+{
+    match way {
+        Way::Whole => {
+            if !leaf::all_taken(k, s, a, b) {
+                return false;
+            }
+            cascade::for_range(Change::Insert, k, s, a, b);
+            true
+        }
+        Way::Old => dealloc_contiguous_old(k, s, a, b),
+    }
+}
+
 // The crate's run give-back of the positions from a up to b: whether none of them was free.
-pub fn dealloc_contiguous(k: usize, s: &mut [u16], a: usize, b: usize) -> bool
+pub fn dealloc_contiguous_old(k: usize, s: &mut [u16], a: usize, b: usize) -> bool
     requires { ⌜ (k ≤ 6) × (length (now s) ≡ words k) × (a < b) × (b ≤ cap k) ⌝ }
     ensures { λ r. ⌜ r ≡ leb b (firstLeaf k (now (s .entry)) a b) ⌝ }
     ensures { λ _. ⌜ now (s .exit) ≡ giveBack k (now (s .entry)) a b ⌝ }
@@ -200,7 +225,7 @@ pub fn dealloc_contiguous(k: usize, s: &mut [u16], a: usize, b: usize) -> bool
         let from = 1 + i * size;
         let to = from + size;
         if ok {
-            ok = dealloc_contiguous_below(
+            ok = dealloc_contiguous_old_below(
                 j,
                 &mut s[from..to],
                 cascade::low_of(j, a, i),
@@ -214,17 +239,17 @@ pub fn dealloc_contiguous(k: usize, s: &mut [u16], a: usize, b: usize) -> bool
 }
 
 // The same by a table of the levels, so that the compiled code has each level's numbers in it.
-pub fn dealloc_contiguous_below(k: usize, s: &mut [u16], a: usize, b: usize) -> bool
+pub fn dealloc_contiguous_old_below(k: usize, s: &mut [u16], a: usize, b: usize) -> bool
     requires { ⌜ (k ≤ 5) × (length (now s) ≡ words k) × (a < b) × (b ≤ cap k) ⌝ }
     ensures { λ r. ⌜ r ≡ leb b (firstLeaf k (now (s .entry)) a b) ⌝ }
     ensures { λ _. ⌜ now (s .exit) ≡ giveBack k (now (s .entry)) a b ⌝ }
 {
     match k {
-        0 => dealloc_contiguous(0, s, a, b),
-        1 => dealloc_contiguous(1, s, a, b),
-        2 => dealloc_contiguous(2, s, a, b),
-        3 => dealloc_contiguous(3, s, a, b),
-        4 => dealloc_contiguous(4, s, a, b),
-        _ => dealloc_contiguous(5, s, a, b),
+        0 => dealloc_contiguous_old(0, s, a, b),
+        1 => dealloc_contiguous_old(1, s, a, b),
+        2 => dealloc_contiguous_old(2, s, a, b),
+        3 => dealloc_contiguous_old(3, s, a, b),
+        4 => dealloc_contiguous_old(4, s, a, b),
+        _ => dealloc_contiguous_old(5, s, a, b),
     }
 }

@@ -2,6 +2,7 @@
 // Every call is total: specs/Calls.antt says what it answers and leaves in the store, for every store and every number.
 ghost use mathlib.Core.Path.{_≡_};
 ghost use Rattle.bitmap.specs.declared.cascade.Change.the-variants.{Insert, Remove};
+ghost use Rattle.bitmap.specs.declared.contiguous.Way.the-variants.{Whole, Old};
 ghost use Rattle.bitmap.specs.Answer.{taken, changed, told};
 ghost use Rattle.bitmap.specs.Calls.{answer, after, allocSays, allocAfter, runSays, runAfter, nextSays, giveSays, giveAfter, giveRunSays, giveRunAfter, rangeSays, rangeAfter, emptySays, testSays, checkSays};
 
@@ -20,6 +21,7 @@ pub use answers::Taken;
 pub use answers::Told;
 use cascade::Change;
 pub use contiguous::Base;
+use contiguous::Way;
 pub use sizes::BitAlloc1M;
 pub use sizes::BitAlloc4K;
 pub use sizes::BitAlloc16;
@@ -101,10 +103,26 @@ pub fn dealloc(store: &mut [u16], key: usize) -> Changed
     }
 }
 
-// Gives size positions from base on back, the crate's way: where one was free already, the leaf words before its word are freed.
+// Gives size positions from base on back: all of them, or none where one was free already.
 pub fn dealloc_contiguous(store: &mut [u16], base: usize, size: usize) -> Changed
     ensures { λ r. ⌜ changed r ≡ answer (giveRunSays base size) (now (store .entry)) ⌝ }
-    ensures { λ _. ⌜ now (store .exit) ≡ after (giveRunAfter base size) (now (store .entry)) ⌝ }
+    ensures { λ _. ⌜ now (store .exit) ≡ after (giveRunAfter Whole base size) (now (store .entry)) ⌝ }
+{
+    give_run(Way::Whole, store, base, size)
+}
+
+// The crate's way: where one was free already, the leaf words before its word are freed all the same.
+pub fn dealloc_contiguous_old(store: &mut [u16], base: usize, size: usize) -> Changed
+    ensures { λ r. ⌜ changed r ≡ answer (giveRunSays base size) (now (store .entry)) ⌝ }
+    ensures { λ _. ⌜ now (store .exit) ≡ after (giveRunAfter Old base size) (now (store .entry)) ⌝ }
+{
+    give_run(Way::Old, store, base, size)
+}
+
+// What the two share.
+fn give_run(way: Way, store: &mut [u16], base: usize, size: usize) -> Changed
+    ensures { λ r. ⌜ changed r ≡ answer (giveRunSays base size) (now (store .entry)) ⌝ }
+    ensures { λ _. ⌜ now (store .exit) ≡ after (giveRunAfter way base size) (now (store .entry)) ⌝ }
 {
     let k = sizes::level_of(store.len());
     if k == 7 {
@@ -117,7 +135,7 @@ pub fn dealloc_contiguous(store: &mut [u16], base: usize, size: usize) -> Change
     if size == 0 {
         return Changed::No(Refusal::NoSize);
     }
-    if contiguous::dealloc_contiguous(k, store, base, end) {
+    if contiguous::dealloc_contiguous(way, k, store, base, end) {
         Changed::Done
     } else {
         Changed::No(Refusal::AlreadyFree)

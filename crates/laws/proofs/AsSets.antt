@@ -20,7 +20,7 @@ use Rattle.bitmap.specs.Tree.{cap, own, leaf?, free?, true?}
 use Rattle.bitmap.specs.Change.{change}
 use Rattle.bitmap.specs.GiveBack.{firstLeaf, giveBack}
 use Rattle.bitmap.specs.Answer.{Said, given, refused, refuse}
-use Rattle.bitmap.specs.Calls.{levelOf, answer, after, settle, allocSays, runSays, giveSays, rangeSays}
+use Rattle.bitmap.specs.Calls.{levelOf, answer, after, settle, allocSays, runSays, giveSays, giveRunSays, rangeSays}
 use Rattle.bitmap.proofs.Search.{sort, first-is}
 use Rattle.bitmap.proofs.Levels.{words-level}
 use Rattle.bitmap.proofs.Refusals.{given-on}
@@ -31,8 +31,8 @@ use Rattle.bitmap.proofs.LowestFree.{firstFree, free-none, free-some, alloc-tru
 use Rattle.bitmap.proofs.GiveBacks.{length-giveBack}
 use Rattle.bitmap.proofs.FreedRun.{freedTo, first-free, free-giveBack, true-giveBack, fits-giveBack}
 use Rattle.bitmap.proofs.Stores.{answer-at, after-at}
-use Rattle.laws.specs.Call.{Call, alloc, allocContiguous, next, dealloc, deallocContiguous, insert, remove, isEmpty, test, check, callSays, callAfter}
-use Rattle.laws.specs.Sets.{Positions, with, without, range, found, lowestFrom, freedUpTo, setSays, setAfter, settled}
+use Rattle.laws.specs.Call.{Call, alloc, allocContiguous, next, dealloc, deallocContiguous, deallocContiguousOld, insert, remove, isEmpty, test, check, callSays, callAfter}
+use Rattle.laws.specs.Sets.{Positions, with, without, range, found, lowestFrom, runGiven, freedUpTo, setSays, setAfter, settled}
 use Rattle.laws.specs.Maps.{TrueMap, TrueStore, freeIn, positions}
 
 -- the call c on the map s of k levels below its own word is the call on F
@@ -157,6 +157,19 @@ module _ (k : ℕ) (s : List ℕ) (m : TrueMap k s) where
       let n : base + size - base ≡ size = omega arith in
       first-free k s base (base + size) (m .truth) (omega arith) l ∙ ap (firstFrom (free? k s) base) n
 
+  run-given : (base size : ℕ) → giveRunSays base size k s ≡ runGiven (free? k s) (cap k) base size
+  run-given base size =
+      let b = base + size in
+      in-range (cap k) base b _ _ (λ _ u. ap (λ (x : ℕ). refuse 6 (ltb x b) (given 0)) (run-first base size u))
+
+  give-run-set : (base size : ℕ) → AsSet (deallocContiguous base size) k s
+  give-run-set base size =
+      let e = run-given base size in
+      let r = settles (giveRunSays base size k s) (runGiven (free? k s) (cap k) base size) (λ _. change Insert k s base (base + size))
+      (λ _. with (free? k s) base (base + size)) e (λ _ _. inserts base (base + size)) in
+      record { says = e; leaves = r .1; again = r .0 }
+
+  -- the crate's way
   gives-back : (base size : ℕ) → base + size ≤ cap k
       → TrueMap k (giveBack k s base (base + size))
       × ((p : ℕ) → p < cap k → free? k (giveBack k s base (base + size)) p
@@ -177,18 +190,14 @@ module _ (k : ℕ) (s : List ℕ) (m : TrueMap k s) where
             ∙ put-in (within base (freedUpTo base b q) p) (f p),
       )
 
-  give-run-set : (base size : ℕ) → AsSet (deallocContiguous base size) k s
-  give-run-set base size =
+  give-run-old-set : (base size : ℕ) → AsSet (deallocContiguousOld base size) k s
+  give-run-old-set base size =
       let b = base + size in
       let f = free? k s in
       let r = settles (rangeSays base b k s) (range (cap k) base b (given 0)) (λ _. giveBack k s base b)
       (λ _. with f base (freedUpTo base b (firstFrom f base size))) refl
       (λ v e. gives-back base size (range-given (cap k) base b v e .1)) in
-      record {
-        says = in-range (cap k) base b _ _ (λ _ u. ap (λ (x : ℕ). refuse 6 (ltb x b) (given 0)) (run-first base size u));
-        leaves = r .1;
-        again = r .0;
-      }
+      record { says = run-given base size; leaves = r .1; again = r .0 }
 
   insert-set : (a b : ℕ) → AsSet (insert a b) k s
   insert-set a b =
@@ -228,6 +237,7 @@ as-set (allocContiguous base size align) k s m = run-set k s m base size align
 as-set (next key) k s m = next-set k s m key
 as-set (dealloc key) k s m = give-set k s m key
 as-set (deallocContiguous base size) k s m = give-run-set k s m base size
+as-set (deallocContiguousOld base size) k s m = give-run-old-set k s m base size
 as-set (insert a b) k s m = insert-set k s m a b
 as-set (remove a b) k s m = remove-set k s m a b
 as-set isEmpty k s m = empty-set k s m

@@ -21,8 +21,8 @@ use Rattle.bitmap.proofs.Search.{sort}
 use Rattle.bitmap.proofs.Refusals.{given-on}
 use Rattle.bitmap.proofs.Truth.{some-no, true-is, is-true, live, own-none, free-leaf}
 use Rattle.bitmap.proofs.OneMap.{one-free}
-use Rattle.laws.specs.Call.{Call, alloc, allocContiguous, next, dealloc, deallocContiguous, insert, remove, isEmpty, test, check, callSays}
-use Rattle.laws.specs.Sets.{Positions, found, lowestFrom, range, setSays}
+use Rattle.laws.specs.Call.{Call, alloc, allocContiguous, next, dealloc, deallocContiguous, deallocContiguousOld, insert, remove, isEmpty, test, check, callSays}
+use Rattle.laws.specs.Sets.{Positions, found, lowestFrom, range, runGiven, setSays}
 use Rattle.laws.specs.Maps.{Truthful, TrueMap, TrueStore, freeIn, positions}
 use Rattle.laws.proofs.AsSets.{as-set, map-of, answer-level, store-as-set}
 use Rattle.laws.proofs.RunsExist.{unlike}
@@ -116,6 +116,11 @@ range-seven : (n a b : ℕ) (rest : Said) → (rest ≡ refused 7 → ⊥) → r
 range-seven n a b rest h =
     on-seven 2 (ltb b a || ltb n b) (refuse 3 (eqb a b) rest) (omega arith) (on-seven 3 (eqb a b) rest (omega arith) h)
 
+given-seven : (f : Positions) (n base size : ℕ) → runGiven f n base size ≡ refused 7 → ⊥
+given-seven f n base size =
+    let met = ltb (firstFrom f base size) (base + size) in
+    range-seven n base (base + size) (refuse 6 met (given 0)) (on-seven 6 met (given 0) (omega arith) (unlike 0 7))
+
 -- no call on a set is refused with 7
 set-seven : (c : Call) (f : Positions) (n : ℕ) → setSays c f n ≡ refused 7 → ⊥
 set-seven alloc f n = found-seven n (lowestFrom f n 0)
@@ -133,9 +138,8 @@ set-seven (allocContiguous (At b) size align) f n =
 set-seven (next key) f n = found-seven n (lowestFrom f n key)
 set-seven (dealloc key) f n =
     on-seven 2 (leb n key) (refuse 6 (f key) (given 0)) (omega arith) (on-seven 6 (f key) (given 0) (omega arith) (unlike 0 7))
-set-seven (deallocContiguous base size) f n =
-    let met = ltb (firstFrom f base size) (base + size) in
-    range-seven n base (base + size) (refuse 6 met (given 0)) (on-seven 6 met (given 0) (omega arith) (unlike 0 7))
+set-seven (deallocContiguous base size) f n = given-seven f n base size
+set-seven (deallocContiguousOld base size) f n = given-seven f n base size
 set-seven (insert a b) f n = range-seven n a b (given 0) (unlike 0 7)
 set-seven (remove a b) f n = range-seven n a b (given 0) (unlike 0 7)
 set-seven isEmpty f n = unlike (digit (leb n (lowestFrom f n 0))) 7

@@ -13,7 +13,7 @@ use Rattle.bitmap.specs.Change.{low, high, change}
 use Rattle.bitmap.specs.Take.{lowest}
 use Rattle.bitmap.specs.GiveBack.{giveBack}
 use Rattle.bitmap.specs.Calls.{levelOf, answer, after}
-use Rattle.laws.specs.Call.{Call, alloc, allocContiguous, next, dealloc, deallocContiguous, insert, remove, callSays, callAfter}
+use Rattle.laws.specs.Call.{Call, alloc, allocContiguous, next, dealloc, deallocContiguous, deallocContiguousOld, insert, remove, callSays, callAfter}
 
 infix 60 _says_leaves_
 infixl 55 _then_
@@ -76,10 +76,14 @@ examples =
     ∷ (from noneFree
     then insert 14 20 says given 0 leaves 0x0003 ∷ 0xC000 ∷ 0x000F ∷ replicate 14 0
     then allocContiguous Any 6 1 says given 14 leaves replicate 17 0)
-    -- P6 Free 20 only; give back 0, size 32: answer 6, words 0x0003, 0xFFFF, 0x0010.
+    -- P6 Free 20 only; give back 0, size 32: answer 6, words 0x0003, 0xFFFF, 0x0010 the crate's way, and 0x0002, 0x0000, 0x0010 by
+    -- default.
     ∷ (from noneFree
     then insert 20 21 says given 0 leaves 0x0002 ∷ 0x0000 ∷ 0x0010 ∷ replicate 14 0
-    then deallocContiguous 0 32 says refused 6 leaves 0x0003 ∷ 0xFFFF ∷ 0x0010 ∷ replicate 14 0)
+    then deallocContiguousOld 0 32 says refused 6 leaves 0x0003 ∷ 0xFFFF ∷ 0x0010 ∷ replicate 14 0)
+    ∷ (from noneFree
+    then insert 20 21 says given 0 leaves 0x0002 ∷ 0x0000 ∷ 0x0010 ∷ replicate 14 0
+    then deallocContiguous 0 32 says refused 6 leaves 0x0002 ∷ 0x0000 ∷ 0x0010 ∷ replicate 14 0)
     -- P7 All free: size 256, align 8 gives 0; align 9 or 64 is 4 even at base 0; size 0 is 3.
     ∷ (from noneFree then insert 0 256 says given 0 leaves allFree)
     ∷ (from allFree then allocContiguous Any 256 8 says given 0 leaves noneFree)

@@ -12,7 +12,7 @@ use Rattle.bitmap.specs.GiveBack.{firstLeaf, giveBack}
 use Rattle.bitmap.specs.Answer.{Said, given, refused, refuse}
 use Rattle.bitmap.specs.Calls.{levelOf, answer, after, settle, ranged, rangeSays}
 use Rattle.bitmap.proofs.Refusals.{settle-no}
-use Rattle.laws.specs.Call.{Call, alloc, allocContiguous, next, dealloc, deallocContiguous, insert, remove, isEmpty, test, check, callSays, callAfter, partly}
+use Rattle.laws.specs.Call.{Call, alloc, allocContiguous, next, dealloc, deallocContiguous, deallocContiguousOld, insert, remove, isEmpty, test, check, callSays, callAfter, partly}
 
 -- the words after a refusal, where they settle by the answer
 settled : (x : Said) (n : ℕ) (s : List ℕ) (f : ℕ → List ℕ) → x ≡ refused n → settle x s f ≡ s
@@ -34,7 +34,8 @@ kept-map alloc k s n h e = settled _ n s _ e
 kept-map (allocContiguous base size align) k s n h e = settled _ n s _ e
 kept-map (next key) k s n h e = refl
 kept-map (dealloc key) k s n h e = settled _ n s _ e
-kept-map (deallocContiguous base size) k s n h e =
+kept-map (deallocContiguous base size) k s n h e = settled _ n s _ e
+kept-map (deallocContiguousOld base size) k s n h e =
     settled (rangeSays base (base + size) k s) n s (λ _. giveBack k s base (base + size))
     (ranged-no base (base + size) k (ltb (firstLeaf k s base (base + size)) (base + size)) n h e)
 kept-map (insert a b) k s n h e = settled _ n s _ e
@@ -44,7 +45,7 @@ kept-map (test key) k s n h e = refl
 kept-map check k s n h e = refl
 
 -- Demand 1. For every call with its numbers and every lent store, of any length, true or not: where the call answers a refusal the
--- words afterwards are as lent, for every refusal but 6 of a run give-back.
+-- words afterwards are as lent, for every refusal but 6 of the crate's run give-back.
 pub kept : (c : Call) (s : List ℕ) (n : ℕ) → partly c n ≡ false → answer (callSays c) s ≡ refused n → after (callAfter c) s ≡ s
 unfolding answer after
 kept c s n h e = by (leb 7 (levelOf (length s))) e

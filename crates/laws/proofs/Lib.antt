@@ -1,8 +1,9 @@
--- The theorems: demand 1 (Kept), demand 2 (AsSets, RunsExist, Exact), demand 3 (SetOrder, Order, RunsLast), one answer, P1 to P12.
+-- The theorems: demand 1 (Kept), demand 2 (AsSets, RunsExist, Exact, TwoWays), demand 3 (SetOrder, Order, RunsLast), one answer, P1 to P12.
 pub mod Kept
 pub mod AsSets
 pub mod RunsExist
 pub mod Exact
+pub mod TwoWays
 pub mod SetOrder
 pub mod Order
 pub mod RunsLast

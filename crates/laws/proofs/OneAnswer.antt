@@ -25,6 +25,8 @@ use Rattle.bitmap.proofs.dealloc as dealloc
 use Rattle.bitmap.proofs.dealloc.Reads as dealloc-reads
 use Rattle.bitmap.proofs.dealloc_contiguous as dealloc-contiguous
 use Rattle.bitmap.proofs.dealloc_contiguous.Reads as dealloc-contiguous-reads
+use Rattle.bitmap.proofs.dealloc_contiguous_old as dealloc-contiguous-old
+use Rattle.bitmap.proofs.dealloc_contiguous_old.Reads as dealloc-contiguous-old-reads
 use Rattle.bitmap.proofs.insert as insert
 use Rattle.bitmap.proofs.insert.Reads as insert-reads
 use Rattle.bitmap.proofs.remove as remove
@@ -82,6 +84,10 @@ dealloc-once κs a r₁ r₂ w₁ w₂ p q = (changed-one r₁ r₂ (p .0 ∙ sy
 pub dealloc-contiguous-once : (κs : Lfts 1) (a : ArgsD dealloc-contiguous.signature κs) (r₁ r₂ : ResD dealloc-contiguous.signature κs) (w₁ w₂ : Lasts dealloc-contiguous.ended κs a)
     → dealloc-contiguous-reads.Post κs a r₁ (atExit dealloc-contiguous.ended κs a w₁) → dealloc-contiguous-reads.Post κs a r₂ (atExit dealloc-contiguous.ended κs a w₂) → (r₁ ≡ r₂) × (w₁ ≡ w₂)
 dealloc-contiguous-once κs a r₁ r₂ w₁ w₂ p q = (changed-one r₁ r₂ (p .0 ∙ sym (q .0)), ap (λ (l : List ℕ). (l, w₁ .1)) (p .1 ∙ sym (q .1)))
+
+pub dealloc-contiguous-old-once : (κs : Lfts 1) (a : ArgsD dealloc-contiguous-old.signature κs) (r₁ r₂ : ResD dealloc-contiguous-old.signature κs) (w₁ w₂ : Lasts dealloc-contiguous-old.ended κs a)
+    → dealloc-contiguous-old-reads.Post κs a r₁ (atExit dealloc-contiguous-old.ended κs a w₁) → dealloc-contiguous-old-reads.Post κs a r₂ (atExit dealloc-contiguous-old.ended κs a w₂) → (r₁ ≡ r₂) × (w₁ ≡ w₂)
+dealloc-contiguous-old-once κs a r₁ r₂ w₁ w₂ p q = (changed-one r₁ r₂ (p .0 ∙ sym (q .0)), ap (λ (l : List ℕ). (l, w₁ .1)) (p .1 ∙ sym (q .1)))
 
 pub insert-once : (κs : Lfts 1) (a : ArgsD insert.signature κs) (r₁ r₂ : ResD insert.signature κs) (w₁ w₂ : Lasts insert.ended κs a)
     → insert-reads.Post κs a r₁ (atExit insert.ended κs a w₁) → insert-reads.Post κs a r₂ (atExit insert.ended κs a w₂) → (r₁ ≡ r₂) × (w₁ ≡ w₂)

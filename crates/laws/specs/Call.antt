@@ -5,6 +5,7 @@ use mathlib.Core.List.{List}
 use lib.Dec.{eqb}
 use Rattle.bitmap.specs.declared.cascade.Change.the-variants.{Insert, Remove}
 use Rattle.bitmap.specs.declared.contiguous.Base.{Base}
+use Rattle.bitmap.specs.declared.contiguous.Way.the-variants.{Whole, Old}
 use Rattle.bitmap.specs.Answer.{Said}
 use Rattle.bitmap.specs.Calls.{allocSays, allocAfter, runSays, runAfter, nextSays, giveSays, giveAfter, giveRunSays, giveRunAfter, rangeSays, rangeAfter, emptySays, testSays, checkSays}
 
@@ -15,6 +16,7 @@ pub data Call : Type 0 where
   next : ℕ → Call
   dealloc : ℕ → Call
   deallocContiguous : ℕ → ℕ → Call
+  deallocContiguousOld : ℕ → ℕ → Call
   insert : ℕ → ℕ → Call
   remove : ℕ → ℕ → Call
   isEmpty : Call
@@ -28,6 +30,7 @@ callSays (allocContiguous base size align) = runSays base size align
 callSays (next key) = nextSays key
 callSays (dealloc key) = giveSays key
 callSays (deallocContiguous base size) = giveRunSays base size
+callSays (deallocContiguousOld base size) = giveRunSays base size
 callSays (insert a b) = rangeSays a b
 callSays (remove a b) = rangeSays a b
 callSays isEmpty = emptySays
@@ -40,20 +43,22 @@ callAfter alloc = allocAfter
 callAfter (allocContiguous base size align) = runAfter base size align
 callAfter (next key) = λ k s. s
 callAfter (dealloc key) = giveAfter key
-callAfter (deallocContiguous base size) = giveRunAfter base size
+callAfter (deallocContiguous base size) = giveRunAfter Whole base size
+callAfter (deallocContiguousOld base size) = giveRunAfter Old base size
 callAfter (insert a b) = rangeAfter Insert a b
 callAfter (remove a b) = rangeAfter Remove a b
 callAfter isEmpty = λ k s. s
 callAfter (test key) = λ k s. s
 callAfter check = λ k s. s
 
--- the one refusal that comes after words may have changed: 6 of a run give-back
+-- the one refusal that comes after words may have changed: 6 of the crate's run give-back
 abbrev pub partly : Call → ℕ → Bool
 partly alloc n = false
 partly (allocContiguous base size align) n = false
 partly (next key) n = false
 partly (dealloc key) n = false
-partly (deallocContiguous base size) n = eqb n 6
+partly (deallocContiguous base size) n = false
+partly (deallocContiguousOld base size) n = eqb n 6
 partly (insert a b) n = false
 partly (remove a b) n = false
 partly isEmpty n = false

@@ -8,7 +8,7 @@ use Rattle.bitmap.specs.Bits.{digit, within}
 use Rattle.bitmap.specs.Run.{aligned, run?}
 use Rattle.bitmap.specs.Answer.{Said, given, refused, refuse}
 use Rattle.bitmap.specs.Calls.{misfit}
-use Rattle.laws.specs.Call.{Call, alloc, allocContiguous, next, dealloc, deallocContiguous, insert, remove, isEmpty, test, check}
+use Rattle.laws.specs.Call.{Call, alloc, allocContiguous, next, dealloc, deallocContiguous, deallocContiguousOld, insert, remove, isEmpty, test, check}
 
 -- a set of positions
 abbrev pub Positions : Type 0
@@ -33,6 +33,10 @@ range n a b rest = refuse 2 (ltb b a || ltb n b) (refuse 3 (eqb a b) rest)
 abbrev pub lowestFrom : Positions → ℕ → ℕ → ℕ
 lowestFrom f n key = firstFrom f key (n - key)
 
+-- a run of size positions from base on that is given back: 6 where one of them is in the set
+abbrev pub runGiven : Positions → ℕ → ℕ → ℕ → Said
+runGiven f n base size = range n base (base + size) (refuse 6 (ltb (firstFrom f base size) (base + size)) (given 0))
+
 -- up to where the crate's give-back of a run gets: to its end b, or to the start of the word of the first free position p
 abbrev pub freedUpTo : ℕ → ℕ → ℕ → ℕ
 freedUpTo a b p = cond (ltb p b) (max a (p - p % 16)) b
@@ -47,8 +51,8 @@ setSays (allocContiguous (At b) size align) f n =
     (refuse 3 (eqb size 0) (refuse 2 (ltb n (b + size)) (refuse 5 (not (run? f n size align b)) (given b))))
 setSays (next key) f n = found n (lowestFrom f n key)
 setSays (dealloc key) f n = refuse 2 (leb n key) (refuse 6 (f key) (given 0))
-setSays (deallocContiguous base size) f n =
-    range n base (base + size) (refuse 6 (ltb (firstFrom f base size) (base + size)) (given 0))
+setSays (deallocContiguous base size) f n = runGiven f n base size
+setSays (deallocContiguousOld base size) f n = runGiven f n base size
 setSays (insert a b) f n = range n a b (given 0)
 setSays (remove a b) f n = range n a b (given 0)
 setSays isEmpty f n = given (digit (leb n (lowestFrom f n 0)))
@@ -67,7 +71,8 @@ setAfter (allocContiguous base size align) f n =
     settled (setSays (allocContiguous base size align) f n) f (λ b. without f b (b + size))
 setAfter (next key) f n = f
 setAfter (dealloc key) f n = settled (setSays (dealloc key) f n) f (λ _. with f key (key + 1))
-setAfter (deallocContiguous base size) f n =
+setAfter (deallocContiguous base size) f n = settled (runGiven f n base size) f (λ _. with f base (base + size))
+setAfter (deallocContiguousOld base size) f n =
     settled (range n base (base + size) (given 0)) f
     (λ _. with f base (freedUpTo base (base + size) (firstFrom f base size)))
 setAfter (insert a b) f n = settled (range n a b (given 0)) f (λ _. with f a b)

@@ -11,6 +11,7 @@ use lib.ListN.{length, getD, drop, List·getD-eq-default}
 use Rattle.bitmap.specs.Answer.{Said, given, refused}
 use Rattle.bitmap.specs.declared.cascade.Change.the-variants.{Insert, Remove}
 use Rattle.bitmap.specs.declared.contiguous.Base.the-variants as B
+use Rattle.bitmap.specs.declared.contiguous.Way.the-variants.{Whole, Old}
 use Rattle.bitmap.specs.Tree.{words}
 use Rattle.bitmap.specs.Calls.{answer, after, allocSays, allocAfter, runSays, runAfter, nextSays, giveSays, giveAfter, giveRunSays, giveRunAfter, rangeSays, rangeAfter, emptySays, testSays}
 use Rattle.lines.specs.declared.table.Reply.{Reply}
@@ -53,7 +54,7 @@ fine-at (r ∷ rs) (t ∷ ts) s f zero = f .0
 fine-at (r ∷ rs) (t ∷ ts) s f (suc n) = fine-at rs ts s (f .1) n
 
 module _ (a b c : ℕ) (s : List ℕ) where
-  -- the ten commands
+  -- the eleven commands
   commands-fine : Fines (drop 5 (replies a b c s)) (drop 5 (afters a b c s)) s
   unfolding replies afters Fines
   commands-fine = (
@@ -65,16 +66,19 @@ module _ (a b c : ℕ) (s : List ℕ) where
         (
           done-fine (answer (giveSays a) s) (after (giveAfter a) s) s,
           (
-            done-fine (answer (giveRunSays a b) s) (after (giveRunAfter a b) s) s,
+            done-fine (answer (giveRunSays a b) s) (after (giveRunAfter Whole a b) s) s,
             (
-              done-fine (answer (rangeSays a b) s) (after (rangeAfter Insert a b) s) s,
+              done-fine (answer (giveRunSays a b) s) (after (giveRunAfter Old a b) s) s,
               (
-                done-fine (answer (rangeSays a b) s) (after (rangeAfter Remove a b) s) s,
+                done-fine (answer (rangeSays a b) s) (after (rangeAfter Insert a b) s) s,
                 (
-                  place-fine (answer (nextSays a) s) s s,
+                  done-fine (answer (rangeSays a b) s) (after (rangeAfter Remove a b) s) s,
                   (
-                    yes-fine (answer (testSays a) s) s s,
-                    (yes-fine (answer emptySays s) s s, tt),
+                    place-fine (answer (nextSays a) s) s s,
+                    (
+                      yes-fine (answer (testSays a) s) s s,
+                      (yes-fine (answer emptySays s) s s, tt),
+                    ),
                   ),
                 ),
               ),
@@ -122,7 +126,7 @@ module _ (a b c : ℕ) (s : List ℕ) where
       (p ∙ ap (λ (k : ℕ). getD (replies a b c s) k (No 10)) (sym e), q ∙ ap (λ (k : ℕ). getD (afters a b c s) k s) (sym e))
 
   -- past the last
-  pub case-past : {code : ℕ} → 15 ≤ code → (No 10 ≡ getD (replies a b c s) code (No 10)) × (s ≡ getD (afters a b c s) code s)
+  pub case-past : {code : ℕ} → 16 ≤ code → (No 10 ≡ getD (replies a b c s) code (No 10)) × (s ≡ getD (afters a b c s) code s)
   unfolding replies afters
   case-past {code} h =
       (sym (List·getD-eq-default (replies a b c s) (No 10) {n = code} h), sym (List·getD-eq-default (afters a b c s) s {n = code} h))

@@ -4,7 +4,7 @@ use mathlib.Core.Bool.{Bool, true, false, cond, not, _&&_}
 use mathlib.Core.List.{List, [], _∷_}
 use lib.Dec.{eqb}
 use Rattle.lines.specs.declared.read.Line.{Line}
-use Rattle.lines.specs.Text.{size1, size2, size3, size4, takeText, runText, runatText, freeText, freerunText, insertText, removeText, nextText, testText, emptyText}
+use Rattle.lines.specs.Text.{size1, size2, size3, size4, takeText, runText, runatText, freeText, freerunText, freerunoldText, insertText, removeText, nextText, testText, emptyText}
 use Rattle.lines.specs.Split.{pieces}
 use Rattle.lines.specs.Number.{none, numberOf}
 
@@ -25,21 +25,22 @@ sizeOf s =
 
 -- the commands that no number follows: take, empty
 unfoldable pub alone : List ℕ → ℕ
-alone s = cond (same s takeText) 5 (cond (same s emptyText) 14 0)
+alone s = cond (same s takeText) 5 (cond (same s emptyText) 15 0)
 
 -- those that one number follows: free, next, test
 unfoldable pub withOne : List ℕ → ℕ
 withOne s =
     cond (same s freeText) 8
-    (cond (same s nextText) 12 (cond (same s testText) 13 0))
+    (cond (same s nextText) 13 (cond (same s testText) 14 0))
 
--- those that two numbers follow: run, freerun, insert, remove
+-- those that two numbers follow: run, freerun, freerunold, insert, remove
 unfoldable pub withTwo : List ℕ → ℕ
 withTwo s =
     cond (same s runText) 6
     (cond (same s freerunText) 9
-    (cond (same s insertText) 10
-    (cond (same s removeText) 11 0)))
+    (cond (same s freerunoldText) 10
+    (cond (same s insertText) 11
+    (cond (same s removeText) 12 0))))
 
 -- the one that three numbers follow: runat
 unfoldable pub withThree : List ℕ → ℕ

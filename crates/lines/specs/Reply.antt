@@ -6,6 +6,7 @@ use lib.Dec.{eqb, leb}
 use lib.ListN.{length, getD, replicate}
 use Rattle.bitmap.specs.declared.cascade.Change.the-variants.{Insert, Remove}
 use Rattle.bitmap.specs.declared.contiguous.Base.the-variants as B
+use Rattle.bitmap.specs.declared.contiguous.Way.the-variants.{Whole, Old}
 use Rattle.bitmap.specs.Answer.{Said, given, refused}
 use Rattle.bitmap.specs.Tree.{words, cap}
 use Rattle.bitmap.specs.Calls.{answer, after, allocSays, allocAfter, runSays, runAfter, nextSays, giveSays, giveAfter, giveRunSays, giveRunAfter, rangeSays, rangeAfter, emptySays, testSays}
@@ -37,7 +38,7 @@ abbrev pub yes : Said → Reply
 yes (given v) = cond (eqb v 0) Not Yes
 yes (refused n) = No n
 
--- the table of cases, 0 to 14: a line of another form, the four sizes, and the ten commands on a map s
+-- the table of cases, 0 to 15: a line of another form, the four sizes, and the eleven commands on a map s
 unfoldable pub replies : ℕ → ℕ → ℕ → List ℕ → List Reply
 replies a b c s =
     No 10
@@ -49,6 +50,7 @@ replies a b c s =
     ∷ place (answer (runSays B.Any a b) s)
     ∷ place (answer (runSays (B.At a) b c) s)
     ∷ done (answer (giveSays a) s)
+    ∷ done (answer (giveRunSays a b) s)
     ∷ done (answer (giveRunSays a b) s)
     ∷ done (answer (rangeSays a b) s)
     ∷ done (answer (rangeSays a b) s)
@@ -69,7 +71,8 @@ afters a b c s =
     ∷ after (runAfter B.Any a b) s
     ∷ after (runAfter (B.At a) b c) s
     ∷ after (giveAfter a) s
-    ∷ after (giveRunAfter a b) s
+    ∷ after (giveRunAfter Whole a b) s
+    ∷ after (giveRunAfter Old a b) s
     ∷ after (rangeAfter Insert a b) s
     ∷ after (rangeAfter Remove a b) s
     ∷ s

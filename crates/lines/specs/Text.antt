@@ -2,7 +2,7 @@
 use Prim.Native.Nat.{ℕ}
 use mathlib.Core.List.{List, [], _∷_}
 
--- ---- read: the four first lines, and the names of the ten commands
+-- ---- read: the four first lines, and the names of the eleven commands
 
 abbrev pub size1 : List ℕ
 size1 = 115 ∷ 105 ∷ 122 ∷ 101 ∷ 32 ∷ 49 ∷ []
@@ -30,6 +30,9 @@ freeText = 102 ∷ 114 ∷ 101 ∷ 101 ∷ []
 
 abbrev pub freerunText : List ℕ
 freerunText = 102 ∷ 114 ∷ 101 ∷ 101 ∷ 114 ∷ 117 ∷ 110 ∷ []
+
+abbrev pub freerunoldText : List ℕ
+freerunoldText = 102 ∷ 114 ∷ 101 ∷ 101 ∷ 114 ∷ 117 ∷ 110 ∷ 111 ∷ 108 ∷ 100 ∷ []
 
 abbrev pub insertText : List ℕ
 insertText = 105 ∷ 110 ∷ 115 ∷ 101 ∷ 114 ∷ 116 ∷ []

@@ -6,7 +6,7 @@ ghost use Rattle.lines.specs.Split.{before};
 ghost use Rattle.lines.specs.Number.{numberOf};
 ghost use Rattle.lines.specs.Line.{same, sizeOf, alone, withOne, withTwo, withThree, command, lineOf};
 
-// A line read. The code is 1 to 4 for `size 1` to `size 4`, 5 to 14 for the ten commands, 0 for a line of another form.
+// A line read. The code is 1 to 4 for `size 1` to `size 4`, 5 to 15 for the eleven commands, 0 for a line of another form.
 pub struct Line {
     pub code: usize,
     pub a: usize,
@@ -102,7 +102,7 @@ fn alone(s: &[u8]) -> usize
         return 5;
     }
     if is(s, b"empty") {
-        return 14;
+        return 15;
     }
     0
 }
@@ -114,10 +114,10 @@ fn with_one(s: &[u8]) -> usize
         return 8;
     }
     if is(s, b"next") {
-        return 12;
+        return 13;
     }
     if is(s, b"test") {
-        return 13;
+        return 14;
     }
     0
 }
@@ -131,11 +131,14 @@ fn with_two(s: &[u8]) -> usize
     if is(s, b"freerun") {
         return 9;
     }
-    if is(s, b"insert") {
+    if is(s, b"freerunold") {
         return 10;
     }
-    if is(s, b"remove") {
+    if is(s, b"insert") {
         return 11;
+    }
+    if is(s, b"remove") {
+        return 12;
     }
     0
 }

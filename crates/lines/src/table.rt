@@ -83,7 +83,7 @@ pub fn allowed(n: usize, code: usize) -> usize
     }
 }
 
-// The table: 1 to 4 are the sizes, 5 to 14 the commands, and everything else is refused.
+// The table: 1 to 4 are the sizes, 5 to 15 the commands, and everything else is refused.
 pub fn answer(code: usize, a: usize, b: usize, c: usize, map: &mut [u16]) -> Reply
     ensures { λ r. ⌜ r ≡ getD (replies a b c (now (map .entry))) code (Reply.No 10) ⌝ }
     ensures { λ _. ⌜ now (map .exit) ≡ getD (afters a b c (now (map .entry))) code (now (map .entry)) ⌝ }
@@ -98,11 +98,12 @@ pub fn answer(code: usize, a: usize, b: usize, c: usize, map: &mut [u16]) -> Rep
         7 => place(bitmap::alloc_contiguous(map, Base::At(a), b, c)),
         8 => done(bitmap::dealloc(map, a)),
         9 => done(bitmap::dealloc_contiguous(map, a, b)),
-        10 => done(bitmap::insert(map, a, b)),
-        11 => done(bitmap::remove(map, a, b)),
-        12 => place(bitmap::next(map, a)),
-        13 => yes(bitmap::test(map, a)),
-        14 => yes(bitmap::is_empty(map)),
-        0 | 15.. => Reply::No(10),
+        10 => done(bitmap::dealloc_contiguous_old(map, a, b)),
+        11 => done(bitmap::insert(map, a, b)),
+        12 => done(bitmap::remove(map, a, b)),
+        13 => place(bitmap::next(map, a)),
+        14 => yes(bitmap::test(map, a)),
+        15 => yes(bitmap::is_empty(map)),
+        0 | 16.. => Reply::No(10),
     }
 }

@@ -31,7 +31,7 @@ fn called(map: &mut [u16], code: u64, a: usize, b: usize, c: usize) -> Answer {
         2 => asogeren::asogeren_alloc_contiguous_at(map, a, b, c),
         3 => asogeren::asogeren_next(map, a),
         4 => asogeren::asogeren_dealloc(map, a),
-        5 => asogeren::asogeren_dealloc_contiguous(map, a, b),
+        5 => asogeren::asogeren_dealloc_contiguous_old(map, a, b),
         6 => asogeren::asogeren_insert(map, a, b),
         7 => asogeren::asogeren_remove(map, a, b),
         8 => asogeren::asogeren_is_empty(map),

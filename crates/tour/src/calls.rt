@@ -133,6 +133,17 @@ pub fn runs(s: &mut [u16], cap: usize, bits: usize)
         Step::DeallocRun(near, 2),
     ];
     play(s, given_back);
+    let given_back_old = [
+        Step::DeallocRunOld(past, 0),
+        Step::DeallocRunOld(1, MOST),
+        Step::DeallocRunOld(cap, 0),
+        Step::DeallocRunOld(0, 0),
+        Step::DeallocRunOld(near, 2),
+        Step::Remove(near, cap),
+        Step::DeallocRunOld(near, 3),
+        Step::DeallocRunOld(near, 2),
+    ];
+    play(s, given_back_old);
     let whole = [
         Step::Insert(0, cap),
         Step::Check,
@@ -186,7 +197,7 @@ fn wrong_count(s: &mut [u16]) {
         Step::Alloc,
         Step::Run(1, 0),
         Step::Next(0),
-        Step::DeallocRun(1, 2),
+        Step::DeallocRunOld(1, 2),
         Step::Insert(1, 2),
         Step::IsEmpty,
         Step::Test(0),

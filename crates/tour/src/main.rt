@@ -32,6 +32,7 @@ fn main() {
     untrue::seen_and_empty();
     untrue::unseen();
     untrue::recomputed();
+    untrue::given_back();
     untrue::of_three_levels();
     untrue::of_four_levels();
 }

@@ -156,20 +156,31 @@ pub fn given_back_in_children() {
     give_back(&mut behind, 260, 250, 10);
 }
 
-// Gives a run back where p alone is free; then once more, and where all of it is taken.
+// Gives a run back where p alone is free, both ways, and then where all of it is taken.
 fn give_back(s: &mut [u16], p: usize, base: usize, size: usize)
     requires { ⌜ (base ≤ 65536) × (size ≤ 65536) ⌝ }
 {
     let end = base + size;
-    let list = [
+    let one_free = [
         Step::Lent,
         Step::Dealloc(p),
         Step::DeallocRun(base, size),
-        Step::Check,
         Step::Test(base),
-        Step::DeallocRun(base, size),
-        Step::Remove(base, end),
+        Step::DeallocRunOld(base, size),
+        Step::Test(base),
+        Step::Check,
         Step::DeallocRun(base, size),
     ];
-    play(s, list);
+    play(s, one_free);
+    let none_free = [
+        Step::DeallocRunOld(base, size),
+        Step::Remove(base, end),
+        Step::DeallocRun(base, size),
+        Step::Check,
+        Step::Remove(base, end),
+        Step::DeallocRunOld(base, size),
+        Step::Check,
+        Step::Next(base),
+    ];
+    play(s, none_free);
 }

@@ -11,6 +11,7 @@ pub enum Step {
     Next(usize),
     Dealloc(usize),
     DeallocRun(usize, usize),
+    DeallocRunOld(usize, usize),
     Insert(usize, usize),
     Remove(usize, usize),
     IsEmpty,
@@ -35,6 +36,7 @@ fn one(s: &mut [u16], step: Step) {
         Step::Next(key) => next(s, key),
         Step::Dealloc(key) => dealloc(s, key),
         Step::DeallocRun(base, size) => dealloc_run(s, base, size),
+        Step::DeallocRunOld(base, size) => dealloc_run_old(s, base, size),
         Step::Insert(start, end) => insert(s, start, end),
         Step::Remove(start, end) => remove(s, start, end),
         Step::IsEmpty => is_empty(s),
@@ -96,6 +98,15 @@ fn dealloc_run(s: &mut [u16], base: usize, size: usize) {
     show::number(base);
     show::number(size);
     let r = bitmap::dealloc_contiguous(s, base, size);
+    show::answer_of_change(r);
+    show::words(s);
+}
+
+fn dealloc_run_old(s: &mut [u16], base: usize, size: usize) {
+    show::text(b"dealloc_contiguous_old");
+    show::number(base);
+    show::number(size);
+    let r = bitmap::dealloc_contiguous_old(s, base, size);
     show::answer_of_change(r);
     show::words(s);
 }

@@ -65,7 +65,8 @@ pub fn unseen() {
     play(s, mended);
 }
 
-// A change recomputes the bits of the children in its range and no other; a run give-back that fails in its first word does too.
+// A change recomputes the bits of the children in its range and no other; the crate's run give-back that fails in its first word does
+// too, and the default leaves them.
 pub fn recomputed() {
     show::title(b"the bits of the children in the range are recomputed");
     let mut map = [0u16; BitAlloc256::WORDS];
@@ -75,12 +76,32 @@ pub fn recomputed() {
     let list = [
         Step::Lent,
         Step::Check,
-        Step::Next(0),
         Step::DeallocRun(0, 48),
+        Step::DeallocRunOld(0, 48),
         Step::Remove(70, 90),
         Step::Insert(255, 256),
         Step::Alloc,
         Step::Alloc,
+    ];
+    play(s, list);
+}
+
+// Whether a position is free already is its leaf bit, whatever the summary bit over it says.
+pub fn given_back() {
+    show::title(b"a run given back goes by its leaf bits");
+    let mut map = [0u16; BitAlloc256::WORDS];
+    map[0] = 0x0008;
+    map[2] = 0x0002;
+    let s: &mut [u16] = &mut map;
+    let list = [
+        Step::Lent,
+        Step::Check,
+        Step::DeallocRun(16, 4),
+        Step::DeallocRun(40, 8),
+        Step::DeallocRun(30, 20),
+        Step::DeallocRun(18, 22),
+        Step::DeallocRun(48, 1),
+        Step::Check,
     ];
     play(s, list);
 }

@@ -46,9 +46,19 @@ returns-4 : tie.Need-returns-4
 unfolding withTwo
 returns-4 c = pick-no _ (c .before .before .before .before .before .before .before .before .before .before .is .ensures) (c .before .before .before .before .before .before .before .before .before .if1 .left) (pick-no _ (c .before .before .before .before .before .before .before .is2 .ensures) (c .before .before .before .before .before .before .if2 .left) (pick-no _ (c .before .before .before .before .is3 .ensures) (c .before .before .before .if3 .left) (pick-yes _ (c .before .is4 .ensures) (c .if4 .taken))))
 
+slice-aggregate-is-5 : tie.Need-slice-aggregate-is-5
+slice-aggregate-is-5 c = search needs
+
+is-requires-5 : tie.Need-is-requires-5
+is-requires-5 c κs = search needs
+
 returns-5 : tie.Need-returns-5
 unfolding withTwo
-returns-5 c = pick-no _ (c .before .before .before .before .before .before .before .before .before .before .is .ensures) (c .before .before .before .before .before .before .before .before .before .if1 .left) (pick-no _ (c .before .before .before .before .before .before .before .is2 .ensures) (c .before .before .before .before .before .before .if2 .left) (pick-no _ (c .before .before .before .before .is3 .ensures) (c .before .before .before .if3 .left) (pick-no _ (c .before .is4 .ensures) (c .if4 .left) refl)))
+returns-5 c = pick-no _ (c .before .before .before .before .before .before .before .before .before .before .before .before .before .is .ensures) (c .before .before .before .before .before .before .before .before .before .before .before .before .if1 .left) (pick-no _ (c .before .before .before .before .before .before .before .before .before .before .is2 .ensures) (c .before .before .before .before .before .before .before .before .before .if2 .left) (pick-no _ (c .before .before .before .before .before .before .before .is3 .ensures) (c .before .before .before .before .before .before .if3 .left) (pick-no _ (c .before .before .before .before .is4 .ensures) (c .before .before .before .if4 .left) (pick-yes _ (c .before .is5 .ensures) (c .if5 .taken)))))
+
+returns-6 : tie.Need-returns-6
+unfolding withTwo
+returns-6 c = pick-no _ (c .before .before .before .before .before .before .before .before .before .before .before .before .before .is .ensures) (c .before .before .before .before .before .before .before .before .before .before .before .before .if1 .left) (pick-no _ (c .before .before .before .before .before .before .before .before .before .before .is2 .ensures) (c .before .before .before .before .before .before .before .before .before .if2 .left) (pick-no _ (c .before .before .before .before .before .before .before .is3 .ensures) (c .before .before .before .before .before .before .if3 .left) (pick-no _ (c .before .before .before .before .is4 .ensures) (c .before .before .before .if4 .left) (pick-no _ (c .before .is5 .ensures) (c .if5 .left) refl))))
 
 pub with-two-spec : {M : Type 1} → statement M
 with-two-spec =
@@ -66,4 +76,7 @@ with-two-spec =
     slice-aggregate-is-4
     is-requires-4
     returns-4
-    returns-5)
+    slice-aggregate-is-5
+    is-requires-5
+    returns-5
+    returns-6)

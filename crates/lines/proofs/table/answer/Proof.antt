@@ -38,17 +38,23 @@ dealloc-contiguous-requires c κs = search needs
 done-requires-2 : tie.Need-done-requires-2
 done-requires-2 c κs = search needs
 
-insert-requires : tie.Need-insert-requires
-insert-requires c κs = search needs
+dealloc-contiguous-old-requires : tie.Need-dealloc-contiguous-old-requires
+dealloc-contiguous-old-requires c κs = search needs
 
 done-requires-3 : tie.Need-done-requires-3
 done-requires-3 c κs = search needs
 
-remove-requires : tie.Need-remove-requires
-remove-requires c κs = search needs
+insert-requires : tie.Need-insert-requires
+insert-requires c κs = search needs
 
 done-requires-4 : tie.Need-done-requires-4
 done-requires-4 c κs = search needs
+
+remove-requires : tie.Need-remove-requires
+remove-requires c κs = search needs
+
+done-requires-5 : tie.Need-done-requires-5
+done-requires-5 c κs = search needs
 
 next-requires : tie.Need-next-requires
 next-requires c κs = search needs
@@ -156,7 +162,7 @@ returns-10 c =
     let d = c .before .before .before in
     let m = d .before .before in
     let a = m .before .before .args in
-    case-at (a .a) (a .b) (a .c) (a .map .now) 10 (m .match .keys10) (c .done3 .ensures ∙ ap done (d .insert .ensures .0)) (d .insert .ensures .1)
+    case-at (a .a) (a .b) (a .c) (a .map .now) 10 (m .match .keys10) (c .done3 .ensures ∙ ap done (d .dealloc-contiguous-old .ensures .0)) (d .dealloc-contiguous-old .ensures .1)
 
 same-length-7 : tie.Need-same-length-7
 same-length-7 c = search needs
@@ -167,7 +173,7 @@ returns-11 c =
     let d = c .before .before .before in
     let m = d .before .before in
     let a = m .before .before .args in
-    case-at (a .a) (a .b) (a .c) (a .map .now) 11 (m .match .keys11) (c .done4 .ensures ∙ ap done (d .remove .ensures .0)) (d .remove .ensures .1)
+    case-at (a .a) (a .b) (a .c) (a .map .now) 11 (m .match .keys11) (c .done4 .ensures ∙ ap done (d .insert .ensures .0)) (d .insert .ensures .1)
 
 same-length-8 : tie.Need-same-length-8
 same-length-8 c = search needs
@@ -175,10 +181,10 @@ same-length-8 c = search needs
 returns-12 : tie.Need-returns-12
 unfolding replies afters words cap
 returns-12 c =
-    let d = c .before in
+    let d = c .before .before .before in
     let m = d .before .before in
     let a = m .before .before .args in
-    case-at (a .a) (a .b) (a .c) (a .map .now) 12 (m .match .keys12) (c .place4 .ensures ∙ ap place (d .next .ensures)) refl
+    case-at (a .a) (a .b) (a .c) (a .map .now) 12 (m .match .keys12) (c .done5 .ensures ∙ ap done (d .remove .ensures .0)) (d .remove .ensures .1)
 
 same-length-9 : tie.Need-same-length-9
 same-length-9 c = search needs
@@ -189,7 +195,7 @@ returns-13 c =
     let d = c .before in
     let m = d .before .before in
     let a = m .before .before .args in
-    case-at (a .a) (a .b) (a .c) (a .map .now) 13 (m .match .keys13) (c .yes .ensures ∙ ap yes (d .test .ensures)) refl
+    case-at (a .a) (a .b) (a .c) (a .map .now) 13 (m .match .keys13) (c .place4 .ensures ∙ ap place (d .next .ensures)) refl
 
 same-length-10 : tie.Need-same-length-10
 same-length-10 c = search needs
@@ -200,20 +206,31 @@ returns-14 c =
     let d = c .before in
     let m = d .before .before in
     let a = m .before .before .args in
-    case-at (a .a) (a .b) (a .c) (a .map .now) 14 (m .match .keys14) (c .yes2 .ensures ∙ ap yes (d .is-empty .ensures)) refl
+    case-at (a .a) (a .b) (a .c) (a .map .now) 14 (m .match .keys14) (c .yes .ensures ∙ ap yes (d .test .ensures)) refl
+
+same-length-11 : tie.Need-same-length-11
+same-length-11 c = search needs
 
 returns-15 : tie.Need-returns-15
 unfolding replies afters words cap
 returns-15 c =
-    let a = c .before .before .args in
-    case-at (a .a) (a .b) (a .c) (a .map .now) 0 (c .match .keys15) refl refl
+    let d = c .before in
+    let m = d .before .before in
+    let a = m .before .before .args in
+    case-at (a .a) (a .b) (a .c) (a .map .now) 15 (m .match .keys15) (c .yes2 .ensures ∙ ap yes (d .is-empty .ensures)) refl
 
 returns-16 : tie.Need-returns-16
 unfolding replies afters words cap
 returns-16 c =
     let a = c .before .before .args in
+    case-at (a .a) (a .b) (a .c) (a .map .now) 0 (c .match .keys16) refl refl
+
+returns-17 : tie.Need-returns-17
+unfolding replies afters words cap
+returns-17 c =
+    let a = c .before .before .args in
     let r = c .match .rest in
-    case-past (a .a) (a .b) (a .c) (a .map .now) (up (up (up (up (up (up (up (up (up (up (up (up (up (up (up (omega arith) (r .1)) (r .0 .0 .0 .0 .0 .0 .0 .0 .0 .0 .0 .0 .0 .0 .1)) (r .0 .0 .0 .0 .0 .0 .0 .0 .0 .0 .0 .0 .0 .1)) (r .0 .0 .0 .0 .0 .0 .0 .0 .0 .0 .0 .0 .1)) (r .0 .0 .0 .0 .0 .0 .0 .0 .0 .0 .0 .1)) (r .0 .0 .0 .0 .0 .0 .0 .0 .0 .0 .1)) (r .0 .0 .0 .0 .0 .0 .0 .0 .0 .1)) (r .0 .0 .0 .0 .0 .0 .0 .0 .1)) (r .0 .0 .0 .0 .0 .0 .0 .1)) (r .0 .0 .0 .0 .0 .0 .1)) (r .0 .0 .0 .0 .0 .1)) (r .0 .0 .0 .0 .1)) (r .0 .0 .0 .1)) (r .0 .0 .1)) (r .0 .1))
+    case-past (a .a) (a .b) (a .c) (a .map .now) (up (up (up (up (up (up (up (up (up (up (up (up (up (up (up (up (omega arith) (r .1)) (r .0 .0 .0 .0 .0 .0 .0 .0 .0 .0 .0 .0 .0 .0 .0 .1)) (r .0 .0 .0 .0 .0 .0 .0 .0 .0 .0 .0 .0 .0 .0 .1)) (r .0 .0 .0 .0 .0 .0 .0 .0 .0 .0 .0 .0 .0 .1)) (r .0 .0 .0 .0 .0 .0 .0 .0 .0 .0 .0 .0 .1)) (r .0 .0 .0 .0 .0 .0 .0 .0 .0 .0 .0 .1)) (r .0 .0 .0 .0 .0 .0 .0 .0 .0 .0 .1)) (r .0 .0 .0 .0 .0 .0 .0 .0 .0 .1)) (r .0 .0 .0 .0 .0 .0 .0 .0 .1)) (r .0 .0 .0 .0 .0 .0 .0 .1)) (r .0 .0 .0 .0 .0 .0 .1)) (r .0 .0 .0 .0 .0 .1)) (r .0 .0 .0 .0 .1)) (r .0 .0 .0 .1)) (r .0 .0 .1)) (r .0 .1))
 
 pub answer-spec : {M : Type 1} → statement M
 answer-spec =
@@ -229,10 +246,12 @@ answer-spec =
     done-requires
     dealloc-contiguous-requires
     done-requires-2
-    insert-requires
+    dealloc-contiguous-old-requires
     done-requires-3
-    remove-requires
+    insert-requires
     done-requires-4
+    remove-requires
+    done-requires-5
     next-requires
     place-requires-4
     test-requires
@@ -263,5 +282,7 @@ answer-spec =
     returns-13
     same-length-10
     returns-14
+    same-length-11
     returns-15
-    returns-16)
+    returns-16
+    returns-17)

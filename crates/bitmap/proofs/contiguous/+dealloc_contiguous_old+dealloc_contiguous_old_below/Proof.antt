@@ -1,4 +1,4 @@
--- The proof of the cycle of calls {contiguous::dealloc_contiguous, contiguous::dealloc_contiguous_below}. The measure is 2 k for a map of
+-- The proof of the cycle of calls {contiguous::dealloc_contiguous_old, contiguous::dealloc_contiguous_old_below}. The measure is 2 k for a map of
 -- level k, and 2 k + 1 for the table. The loop is the one of `Walk` and `Turn`, each of the children becoming what a give-back leaves of
 -- it; `ok` is `taken?`. Assumes nothing.
 use mathlib.Core.Path.{_≡_, refl, sym, ap, _∙_}
@@ -22,12 +22,12 @@ use Rattle.bitmap.proofs.Changes.{change-word}
 use Rattle.bitmap.proofs.Path.{Entered, level-below}
 use Rattle.bitmap.proofs.Walk.{Walk, walk-turns, walk-some, walk-call, walk-before, walk-enter, walk-next, walk-finish}
 use Rattle.bitmap.proofs.GiveBacks.{givenKids, sized-given, given-kid, passed-kid, give-kids, stay-word, free-word, taken?, taken-none, taken-all, taken-true, taken-false, taken-more, taken-less}
-use Rattle.bitmap.proofs.contiguous.dealloc_contiguous.Reads as reads
-use Rattle.bitmap.proofs.contiguous.dealloc_contiguous.Kinds as kinds
-use Rattle.bitmap.proofs.contiguous.+dealloc_contiguous+dealloc_contiguous_below.Lts-dealloc_contiguous as lts
-use Rattle.bitmap.proofs.contiguous.dealloc_contiguous_below.Reads as table
-use Rattle.bitmap.proofs.contiguous.dealloc_contiguous_below.Kinds as table-kinds
-use Rattle.bitmap.proofs.contiguous.+dealloc_contiguous+dealloc_contiguous_below.Lts-dealloc_contiguous_below as table-lts
+use Rattle.bitmap.proofs.contiguous.dealloc_contiguous_old.Reads as reads
+use Rattle.bitmap.proofs.contiguous.dealloc_contiguous_old.Kinds as kinds
+use Rattle.bitmap.proofs.contiguous.+dealloc_contiguous_old+dealloc_contiguous_old_below.Lts-dealloc_contiguous_old as lts
+use Rattle.bitmap.proofs.contiguous.dealloc_contiguous_old_below.Reads as table
+use Rattle.bitmap.proofs.contiguous.dealloc_contiguous_old_below.Kinds as table-kinds
+use Rattle.bitmap.proofs.contiguous.+dealloc_contiguous_old+dealloc_contiguous_old_below.Lts-dealloc_contiguous_old_below as table-lts
 use Rattle.bitmap.proofs.cascade.high_of.Reads as high-of
 use Rattle.bitmap.proofs.cascade.low_of.Reads as low-of
 use Rattle.bitmap.proofs.sizes.child_of.Reads as child-of
@@ -35,8 +35,8 @@ use Rattle.bitmap.proofs.sizes.words_of.Reads as words-of
 use Rattle.bitmap.proofs.word.change.Reads as change-word-of
 use Rattle.bitmap.proofs.word.mask.Reads as mask
 use Rattle.bitmap.proofs.word.with_bit.Reads as with-bit
-use Rattle.bitmap.proofs.contiguous.+dealloc_contiguous+dealloc_contiguous_below.{statement}
-use Rattle.bitmap.proofs.contiguous.+dealloc_contiguous+dealloc_contiguous_below.Tie.{close}
+use Rattle.bitmap.proofs.contiguous.+dealloc_contiguous_old+dealloc_contiguous_old_below.{statement}
+use Rattle.bitmap.proofs.contiguous.+dealloc_contiguous_old+dealloc_contiguous_old_below.Tie.{close}
 
 abbrev level : Measures 1 kinds.ps ℕ
 level κs a = 2 * a .0
@@ -121,8 +121,8 @@ module _ (t : ℕ) where
   last : (c : table-lts.At-match-rest (by-table t) (table-given t) table.Post) → c .before .before .args .k ≡ 5
   last c = omega arith
 
-pub +dealloc-contiguous+dealloc-contiguous-below-spec : {M : Type 1} → statement M
-+dealloc-contiguous+dealloc-contiguous-below-spec = close level table-level
+pub +dealloc-contiguous-old+dealloc-contiguous-old-below-spec : {M : Type 1} → statement M
++dealloc-contiguous-old+dealloc-contiguous-old-below-spec = close level table-level
     (λ t. lts.spec (claims t) (given t) reads.Post Inv μ
     -- slice-read-w
     (λ c. omega (arith, words-pos (c .before .before .before .args .k)))
@@ -168,19 +168,19 @@ pub +dealloc-contiguous+dealloc-contiguous-below-spec : {M : Type 1} → stateme
     (λ c. omega (arith, part t c))
     -- add-to
     (λ c. omega (arith, part t c))
-    -- mul-dealloc-contiguous-below
+    -- mul-dealloc-contiguous-old-below
     (λ c. omega (arith, part t (c .before)))
-    -- sub-dealloc-contiguous-below
+    -- sub-dealloc-contiguous-old-below
     (λ c. search needs)
-    -- part-dealloc-contiguous-below-start
+    -- part-dealloc-contiguous-old-below-start
     (λ c. search needs)
-    -- part-dealloc-contiguous-below-end
+    -- part-dealloc-contiguous-old-below-end
     (λ c. part t (c .before) .ends)
     -- low-of-requires
     (λ c κs. omega (arith, part t (c .before .before)))
     -- high-of-requires
     (λ c κs. let n = c .before .before .before in omega (arith, part t n, walk-before (n .before .loop .inv .0) (n .loop-test .taken)))
-    -- dealloc-contiguous-below-requires
+    -- dealloc-contiguous-old-below-requires
     (λ c κs. let n = c .before .before .before .before in
     let call = walk-call (n .before .loop .inv .0) (n .loop-test .taken) (part t n) (c .before .low-of .ensures) (c .high-of .ensures) in
     (omega arith, (omega arith, call .1, call .2, call .3)))
@@ -208,7 +208,7 @@ pub +dealloc-contiguous+dealloc-contiguous-below-spec : {M : Type 1} → stateme
     let l = c .loop-test .left in
     (h .2 ∙ taken-all (h .0) (x .s .now) l, walk-finish (h .0) (h .1) l ∙ give-kids (x .k - 1) (x .s .now) (x .a) (x .b) (h .0 .level))))
     λ t. table-lts.spec (by-table t) (table-given t) table.Post
-    -- dealloc-contiguous-requires, of each arm
+    -- dealloc-contiguous-old-requires, of each arm
     (λ c κs. asks t (c .before .before .before) (c .before .match .keys1))
     (λ c κs. asks t (c .before .before .before) (c .before .match .keys2))
     (λ c κs. asks t (c .before .before .before) (c .before .match .keys3))
@@ -217,14 +217,14 @@ pub +dealloc-contiguous+dealloc-contiguous-below-spec : {M : Type 1} → stateme
     (λ c κs. asks t (c .before .before .before) (last t (c .before)))
     -- same-length and returns, of each arm
     (λ c. search needs)
-    (λ c. answers t (c .before .before .before .before .before .before) (c .before .before .before .before .match .keys1) (c .before .before .dealloc-contiguous .ensures))
+    (λ c. answers t (c .before .before .before .before .before .before) (c .before .before .before .before .match .keys1) (c .before .before .dealloc-contiguous-old .ensures))
     (λ c. search needs)
-    (λ c. answers t (c .before .before .before .before .before .before) (c .before .before .before .before .match .keys2) (c .before .before .dealloc-contiguous2 .ensures))
+    (λ c. answers t (c .before .before .before .before .before .before) (c .before .before .before .before .match .keys2) (c .before .before .dealloc-contiguous-old2 .ensures))
     (λ c. search needs)
-    (λ c. answers t (c .before .before .before .before .before .before) (c .before .before .before .before .match .keys3) (c .before .before .dealloc-contiguous3 .ensures))
+    (λ c. answers t (c .before .before .before .before .before .before) (c .before .before .before .before .match .keys3) (c .before .before .dealloc-contiguous-old3 .ensures))
     (λ c. search needs)
-    (λ c. answers t (c .before .before .before .before .before .before) (c .before .before .before .before .match .keys4) (c .before .before .dealloc-contiguous4 .ensures))
+    (λ c. answers t (c .before .before .before .before .before .before) (c .before .before .before .before .match .keys4) (c .before .before .dealloc-contiguous-old4 .ensures))
     (λ c. search needs)
-    (λ c. answers t (c .before .before .before .before .before .before) (c .before .before .before .before .match .keys5) (c .before .before .dealloc-contiguous5 .ensures))
+    (λ c. answers t (c .before .before .before .before .before .before) (c .before .before .before .before .match .keys5) (c .before .before .dealloc-contiguous-old5 .ensures))
     (λ c. search needs)
-    (λ c. answers t (c .before .before .before .before .before .before) (last t (c .before .before .before .before)) (c .before .before .dealloc-contiguous6 .ensures))
+    (λ c. answers t (c .before .before .before .before .before .before) (last t (c .before .before .before .before)) (c .before .before .dealloc-contiguous-old6 .ensures))

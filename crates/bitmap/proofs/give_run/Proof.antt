@@ -1,22 +1,26 @@
--- `bitmap::dealloc_contiguous` meets its contract. Assumes nothing.
+-- `bitmap::give_run`, which the two run give-backs share, meets its contract. Assumes nothing.
 use borrow.Author.Needs.{needs}
 use borrow.Author.Tests.{le-ltb, lt-ltb, eq-eqb, ne-eqb, leb-true, leb-false}
 use mathlib.Core.Path.{_≡_, refl, sym, ap, _∙_}
-use mathlib.Core.Bool.{false, _||_}
+use mathlib.Core.Bool.{Bool, true, false, cond, _||_}
 use mathlib.Core.List.{List}
 use Prim.Native.Nat.{ℕ, _+_, _≤_, _<_}
 use native.Mathlib.Omega.{arith}
 use lib.Dec.{ltb, leb, eqb}
 use lib.ListN.{length}
+use Rattle.bitmap.specs.declared.cascade.Change.the-variants.{Insert}
+use Rattle.bitmap.specs.declared.contiguous.Way.{Way}
+use Rattle.bitmap.specs.declared.contiguous.Way.the-variants.{Whole, Old}
 use Rattle.bitmap.specs.Tree.{cap}
-use Rattle.bitmap.specs.GiveBack.{firstLeaf, giveBack}
+use Rattle.bitmap.specs.Change.{change}
+use Rattle.bitmap.specs.GiveBack.{firstLeaf, giveBack, givenBack}
 use Rattle.bitmap.specs.Answer.{Said, given, refused, refuse}
-use Rattle.bitmap.specs.Calls.{levelOf, answer, after, ranged, rangeSays, giveRunSays, giveRunAfter}
+use Rattle.bitmap.specs.Calls.{levelOf, answer, after, settle, ranged, rangeSays, giveRunSays, giveRunAfter}
 use Rattle.bitmap.proofs.Levels.{cap-small}
 use Rattle.bitmap.proofs.Refusals.{no, on, or-right, neither, settle-no, settle-on}
 use Rattle.bitmap.proofs.Stores.{answer-none, after-none, answer-at, after-at, sized}
-use Rattle.bitmap.proofs.dealloc_contiguous.Statement.{statement}
-use Rattle.bitmap.proofs.dealloc_contiguous.Tie as tie
+use Rattle.bitmap.proofs.give_run.Statement.{statement}
+use Rattle.bitmap.proofs.give_run.Tie as tie
 
 -- the refusals of a run's range, whatever follows them
 module _ (k base size : ℕ) (rest : Said) where
@@ -33,19 +37,36 @@ module _ (k base size : ℕ) (rest : Said) where
     whole : {x : Said} → (size ≡ 0 → ⊥) → x ≡ rest → x ≡ ranged base (base + size) k rest
     whole nz e = on 2 _ _ fits (on 3 (eqb base (base + size)) rest (ne-eqb base (base + size) (omega arith)) e)
 
--- a refusal of the range: the answer, and the words as lent
-module _ (s : List ℕ) (k base size : ℕ) (is : (k ≡ levelOf (length s)) × (k ≤ 7)) (ne : k ≡ 7 → ⊥) where
-  refused-range : (n : ℕ) → ((rest : Said) → refused n ≡ ranged base (base + size) k rest)
-      → (refused n ≡ answer (giveRunSays base size) s) × (s ≡ after (giveRunAfter base size) s)
-  refused-range n e =
-      (e _ ∙ answer-at s k is ne (giveRunSays base size), settle-no (rangeSays base (base + size) k s) n s (λ _. giveBack k s base (base + size)) (e _) ∙ after-at s k is ne (giveRunAfter base size))
+-- the words after a refusal of the range, and after a give-back where it is neither empty nor out of the map
+module _ (k base size : ℕ) (s : List ℕ) where
+  kept-run : (way : Way) (n : ℕ) → ((rest : Said) → refused n ≡ ranged base (base + size) k rest) → s ≡ giveRunAfter way base size k s
+  kept-run Whole n e = settle-no (giveRunSays base size k s) n s (λ _. change Insert k s base (base + size)) (e _)
+  kept-run Old n e = settle-no (rangeSays base (base + size) k s) n s (λ _. giveBack k s base (base + size)) (e _)
 
-  -- the range is neither empty nor out of the map, and a leaf bit of it is set or none is
-  given-range : base + size ≤ cap k → (size ≡ 0 → ⊥) → {t : List ℕ} {x : Said} → t ≡ giveBack k s base (base + size)
+  given-run : (way : Way) → base + size ≤ cap k → (size ≡ 0 → ⊥) → givenBack way k s base (base + size) ≡ giveRunAfter way base size k s
+  given-run Whole l nz = by (ltb (firstLeaf k s base (base + size)) (base + size))
+    where
+      made : ℕ → List ℕ
+      made _ = change Insert k s base (base + size)
+
+      by : (t : Bool) → cond t s (made 0) ≡ settle (ranged base (base + size) k (refuse 6 t (given 0))) s made
+      by true = settle-no _ 6 s made (whole k base size _ l nz refl)
+      by false = settle-on _ 0 s made (whole k base size _ l nz refl)
+  given-run Old l nz = settle-on _ 0 s (λ _. giveBack k s base (base + size)) (whole k base size _ l nz refl)
+
+-- the same of a lent store, with the answers
+module _ (way : Way) (s : List ℕ) (k base size : ℕ) (is : (k ≡ levelOf (length s)) × (k ≤ 7)) (ne : k ≡ 7 → ⊥) where
+  refused-range : (n : ℕ) → ((rest : Said) → refused n ≡ ranged base (base + size) k rest)
+      → (refused n ≡ answer (giveRunSays base size) s) × (s ≡ after (giveRunAfter way base size) s)
+  refused-range n e =
+      (e _ ∙ answer-at s k is ne (giveRunSays base size), kept-run k base size s way n e ∙ after-at s k is ne (giveRunAfter way base size))
+
+  -- a leaf bit of the range is set, or none is
+  given-range : base + size ≤ cap k → (size ≡ 0 → ⊥) → {t : List ℕ} {x : Said} → t ≡ givenBack way k s base (base + size)
       → x ≡ refuse 6 (ltb (firstLeaf k s base (base + size)) (base + size)) (given 0)
-      → (x ≡ answer (giveRunSays base size) s) × (t ≡ after (giveRunAfter base size) s)
+      → (x ≡ answer (giveRunSays base size) s) × (t ≡ after (giveRunAfter way base size) s)
   given-range l nz et ex =
-      (whole k base size _ l nz ex ∙ answer-at s k is ne (giveRunSays base size), et ∙ settle-on (rangeSays base (base + size) k s) 0 s (λ _. giveBack k s base (base + size)) (whole k base size _ l nz refl) ∙ after-at s k is ne (giveRunAfter base size))
+      (whole k base size _ l nz ex ∙ answer-at s k is ne (giveRunSays base size), et ∙ given-run k base size s way l nz ∙ after-at s k is ne (giveRunAfter way base size))
 
 level-of-requires : tie.Need-level-of-requires
 level-of-requires c κs = search needs
@@ -53,7 +74,7 @@ level-of-requires c κs = search needs
 returns : tie.Need-returns
 returns c =
     let a = c .before .before .before .args in
-    (answer-none _ _ (c .before .level-of .ensures) (c .if1 .taken) (giveRunSays (a .base) (a .size)), after-none _ _ (c .before .level-of .ensures) (c .if1 .taken) (giveRunAfter (a .base) (a .size)))
+    (answer-none _ _ (c .before .level-of .ensures) (c .if1 .taken) (giveRunSays (a .base) (a .size)), after-none _ _ (c .before .level-of .ensures) (c .if1 .taken) (giveRunAfter (a .way) (a .base) (a .size)))
 
 run-end-requires : tie.Need-run-end-requires
 run-end-requires c κs = search needs
@@ -65,7 +86,7 @@ returns-2 : tie.Need-returns-2
 returns-2 c =
     let e = c .before .before .before in
     let a = e .before .before .before .args in
-    refused-range (a .store .now) _ (a .base) (a .size) (e .before .level-of .ensures) (e .if1 .left) 2 (λ rest. past (e .before .level-of .result) (a .base) (a .size) rest (omega arith))
+    refused-range (a .way) (a .store .now) _ (a .base) (a .size) (e .before .level-of .ensures) (e .if1 .left) 2 (λ rest. past (e .before .level-of .result) (a .base) (a .size) rest (omega arith))
 
 -- where the range lies in the map, its end is the sum
 module _ (c : tie.Else2) where
@@ -88,7 +109,7 @@ returns-3 : tie.Need-returns-3
 returns-3 c =
     let e = else1 (c .before) in
     let a = start (c .before) .args in
-    refused-range (a .store .now) _ (a .base) (a .size) (e .before .level-of .ensures) (e .if1 .left) 3 (λ rest. empty (k (c .before)) (a .base) (a .size) rest (room (c .before)) (c .if3 .taken))
+    refused-range (a .way) (a .store .now) _ (a .base) (a .size) (e .before .level-of .ensures) (e .if1 .left) 3 (λ rest. empty (k (c .before)) (a .base) (a .size) rest (room (c .before)) (c .if3 .taken))
 
 dealloc-contiguous-requires : tie.Need-dealloc-contiguous-requires
 dealloc-contiguous-requires c κs =
@@ -119,8 +140,8 @@ returns-4 c =
     let d = c .before .before .before in
     let e = else1 (else2 d) in
     let a = start (else2 d) .args in
-    given-range (a .store .now) _ (a .base) (a .size) (e .before .level-of .ensures) (e .if1 .left) (room (else2 d)) (d .before .before .if3 .left)
-    (d .dealloc-contiguous .ensures .1 ∙ ap (giveBack (k (else2 d)) (a .store .now) (a .base)) (end-is (else2 d)))
+    given-range (a .way) (a .store .now) _ (a .base) (a .size) (e .before .level-of .ensures) (e .if1 .left) (room (else2 d)) (d .before .before .if3 .left)
+    (d .dealloc-contiguous .ensures .1 ∙ ap (givenBack (a .way) (k (else2 d)) (a .store .now) (a .base)) (end-is (else2 d)))
     (on 6 _ _ (le-ltb (leaf d) (to d) (leb-true (to d) (leaf d) (sym (answered d) ∙ c .if4 .taken))) refl)
 
 same-length-2 : tie.Need-same-length-2
@@ -131,12 +152,12 @@ returns-5 c =
     let d = c .before .before .before in
     let e = else1 (else2 d) in
     let a = start (else2 d) .args in
-    given-range (a .store .now) _ (a .base) (a .size) (e .before .level-of .ensures) (e .if1 .left) (room (else2 d)) (d .before .before .if3 .left)
-    (d .dealloc-contiguous .ensures .1 ∙ ap (giveBack (k (else2 d)) (a .store .now) (a .base)) (end-is (else2 d)))
+    given-range (a .way) (a .store .now) _ (a .base) (a .size) (e .before .level-of .ensures) (e .if1 .left) (room (else2 d)) (d .before .before .if3 .left)
+    (d .dealloc-contiguous .ensures .1 ∙ ap (givenBack (a .way) (k (else2 d)) (a .store .now) (a .base)) (end-is (else2 d)))
     (no 6 _ _ (lt-ltb (leaf d) (to d) (leb-false (to d) (leaf d) (sym (answered d) ∙ c .if4 .left))))
 
-pub dealloc-contiguous-spec : {M : Type 1} → statement M
-dealloc-contiguous-spec =
+pub give-run-spec : {M : Type 1} → statement M
+give-run-spec =
     tie.close
     (tie.spec
     level-of-requires
