@@ -55,7 +55,7 @@ impl Added {
         let of = counts.len() as u64;
         for (i, count) in counts.into_iter().enumerate() {
             let times = if count > 300 { 2 } else { 20 / r.less.min(10) };
-            for call in CALLS.repeat(times as usize) {
+            for call in ALL.repeat(times as usize) {
                 let n = rng.within(1, 5) as usize;
                 let o = make::call_of(call, n, &mut rng);
                 let noise = rng.below(5);
@@ -197,6 +197,7 @@ impl Added {
                 0 => Vec::new(),
                 1 => b"\n".to_vec(),
                 2 => b"size 2\ninsert 0 16\nremove 2 8\ntake\ntake\ntake\nfree 1\nfree 1".to_vec(),
+                3 => b"size 2\ninsert 20 21\nfreerun 0 32\ntest 0\nfreerunold 0 32\ntest 0".to_vec(),
                 _ => script(i, &mut rng),
             };
             let want = lines::printed(&input);
@@ -324,18 +325,19 @@ fn script(i: u64, rng: &mut Rng) -> Vec<u8> {
 }
 
 fn good_line(n: usize, rng: &mut Rng) -> String {
-    let o = make::any_call(n, rng);
+    let o = make::any_call(&ALL, n, rng);
     let name = match o.call {
         Alloc => "take",
         Run => "run",
         RunAt => "runat",
         Next => "next",
         Dealloc => "free",
-        DeallocRun => "freerun",
+        DeallocRunOld => "freerunold",
         Insert => "insert",
         Remove => "remove",
         IsEmpty => "empty",
         Test => "test",
+        DeallocRun => "freerun",
     };
     let mut line = name.to_string();
     for x in o.numbers() {
@@ -366,7 +368,7 @@ fn bad_line(line: String, rng: &mut Rng) -> Vec<u8> {
         9 => line.insert(0, b' '),
         10 => {
             line = rng
-                .pick(&["size 2", "freerunold 1 1", "quit", "ok", "take take", "empty 0"])
+                .pick(&["size 2", "freerun_old 1 1", "quit", "ok", "take take", "empty 0"])
                 .as_bytes()
                 .to_vec()
         }

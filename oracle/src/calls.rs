@@ -1,4 +1,4 @@
-//! The calls that the crate has, with their arguments, and the sizes of the maps.
+//! The calls, with their arguments, and the sizes of the maps.
 use std::fmt;
 
 /// The positions of a map of n levels.
@@ -18,16 +18,33 @@ pub enum Call {
     RunAt,
     Next,
     Dealloc,
-    DeallocRun,
+    DeallocRunOld,
     Insert,
     Remove,
     IsEmpty,
     Test,
+    DeallocRun,
 }
 
 pub use Call::*;
 
-pub const CALLS: [Call; 10] = [Alloc, Run, RunAt, Next, Dealloc, DeallocRun, Insert, Remove, IsEmpty, Test];
+/// The calls that the crate has.
+pub const CALLS: [Call; 10] = [Alloc, Run, RunAt, Next, Dealloc, DeallocRunOld, Insert, Remove, IsEmpty, Test];
+
+/// And the one that it has not, the run give-back that is all or nothing: the plain model judges it.
+pub const ALL: [Call; 11] = [
+    Alloc,
+    Run,
+    RunAt,
+    Next,
+    Dealloc,
+    DeallocRunOld,
+    Insert,
+    Remove,
+    IsEmpty,
+    Test,
+    DeallocRun,
+];
 
 impl Call {
     /// The name in the C library, without its prefix.
@@ -38,11 +55,12 @@ impl Call {
             RunAt => "alloc_contiguous_at",
             Next => "next",
             Dealloc => "dealloc",
-            DeallocRun => "dealloc_contiguous",
+            DeallocRunOld => "dealloc_contiguous_old",
             Insert => "insert",
             Remove => "remove",
             IsEmpty => "is_empty",
             Test => "test",
+            DeallocRun => "dealloc_contiguous",
         }
     }
 
@@ -51,7 +69,7 @@ impl Call {
         match self {
             Alloc | IsEmpty => 0,
             Next | Dealloc | Test => 1,
-            Run | DeallocRun | Insert | Remove => 2,
+            Run | DeallocRunOld | Insert | Remove | DeallocRun => 2,
             RunAt => 3,
         }
     }

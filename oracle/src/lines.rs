@@ -1,4 +1,4 @@
-//! The line program as document 01 says it, over the plain model.
+//! The line program as document 01 says it, with the command of request (vii), over the plain model.
 use crate::model::{self, Said};
 
 /// What the program prints for this input.
@@ -54,6 +54,7 @@ fn answer(line: &[u8], s: &mut [u16]) -> String {
         (b"runat", [base, size, align]) => at(model::alloc_contiguous_at(s, *base, *size, *align)),
         (b"free", [key]) => ok(model::dealloc(s, *key)),
         (b"freerun", [base, size]) => ok(model::dealloc_contiguous(s, *base, *size)),
+        (b"freerunold", [base, size]) => ok(model::dealloc_contiguous_old(s, *base, *size)),
         (b"insert", [start, end]) => ok(model::insert(s, *start, *end)),
         (b"remove", [start, end]) => ok(model::remove(s, *start, *end)),
         (b"next", [key]) => at(model::next(s, *key)),

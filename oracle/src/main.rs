@@ -51,7 +51,7 @@ fn all(r: &mut Runs, added: &mut Added) -> Ran {
 fn table(r: &Runs) {
     println!("\nHow often each class of answer was met, on true maps:\n");
     println!("| call | answer | n = 1 | n = 2 | n = 3 | n = 4 | n = 5 |\n|---|---|---|---|---|---|---|");
-    for call in CALLS {
+    for call in ALL {
         for class in paper::classes(call, 2) {
             println!(
                 "| {} | {} | {} |",
@@ -63,7 +63,7 @@ fn table(r: &Runs) {
     }
     println!("\nThe same on untrue maps:\n");
     println!("| call | answer | n = 1 | n = 2 | n = 3 |\n|---|---|---|---|---|");
-    for call in CALLS {
+    for call in ALL {
         for class in paper::classes(call, 2)
             .iter()
             .chain(if call == Alloc { &[paper::Untrue][..] } else { &[] })
@@ -106,7 +106,7 @@ fn main() -> ExitCode {
                 plant = args
                     .next()
                     .and_then(|name| Plant::named(&name))
-                    .expect("answer, leaf or summary after --plant")
+                    .expect("answer, leaf, summary or whole after --plant")
             }
             "--quick" => less = 20,
             "--record" => folder = args.next(),
@@ -143,7 +143,7 @@ fn main() -> ExitCode {
                 "\ncompare: operations compared {}; on untrue maps {}; beside the model {}: 0 differences, in {} s",
                 true_maps.join(", "),
                 untrue.join(", "),
-                added.compared(),
+                r.tally.beside_model() + added.compared(),
                 r.began.elapsed().as_secs()
             );
             ExitCode::SUCCESS

@@ -247,9 +247,9 @@ pub fn align(n: usize, rng: &mut Rng) -> u64 {
     }
 }
 
-/// A call of any kind with numbers of any kind.
-pub fn any_call(n: usize, rng: &mut Rng) -> Op {
-    let call = rng.pick(&CALLS);
+/// One of the calls with numbers of any kind.
+pub fn any_call(calls: &[Call], n: usize, rng: &mut Rng) -> Op {
+    let call = rng.pick(calls);
     call_of(call, n, rng)
 }
 
@@ -267,7 +267,7 @@ pub fn call_of(call: Call, n: usize, rng: &mut Rng) -> Op {
             let (b, s, a) = (key(n, rng), any_size(rng), align(n, rng));
             op(call, &[if rng.once_in(4) { b } else { down(b, a) }, s, a])
         }
-        DeallocRun => op(call, &[key(n, rng), any_size(rng)]),
+        DeallocRunOld | DeallocRun => op(call, &[key(n, rng), any_size(rng)]),
         Insert | Remove => {
             let (a, s) = (key(n, rng), any_size(rng));
             let b = if rng.once_in(16) { key(n, rng) } else { a.saturating_add(s) };
@@ -385,12 +385,12 @@ pub fn aimed(call: Call, class: Class, n: usize, rng: &mut Rng) -> Vec<Op> {
         (Dealloc, Done) => vec![op(Remove, &[a, a + 1]), op(Dealloc, &[a])],
         (Dealloc, FreeAlready) => vec![op(Insert, &[a, b]), op(Dealloc, &[rng.within(a, b - 1)])],
         (Dealloc, _) => vec![op(Dealloc, &[past(n, rng)])],
-        (DeallocRun, Done) => vec![op(Remove, &[a, b]), op(DeallocRun, &[a, b - a])],
-        (DeallocRun, FreeAlready) => {
+        (DeallocRunOld | DeallocRun, Done) => vec![op(Remove, &[a, b]), op(call, &[a, b - a])],
+        (DeallocRunOld | DeallocRun, FreeAlready) => {
             let p = rng.within(a, (a / 16 * 16 + 15).min(b - 1));
-            vec![op(Insert, &[p, p + 1]), op(DeallocRun, &[a, b - a])]
+            vec![op(Insert, &[p, p + 1]), op(call, &[a, b - a])]
         }
-        (DeallocRun, EarlierFreed) => {
+        (DeallocRunOld | DeallocRun, EarlierFreed | EarlierKept) => {
             // the words before a border are taken, and a position after it is free
             let step = 16u64 << (4 * rng.below(n as u64 - 1));
             let border = rng.within(1, cap / step - 1) * step;
@@ -403,18 +403,18 @@ pub fn aimed(call: Call, class: Class, n: usize, rng: &mut Rng) -> Vec<Op> {
             vec![
                 op(Remove, &[base, before]),
                 op(Insert, &[p, p + 1]),
-                op(DeallocRun, &[base, end - base]),
+                op(call, &[base, end - base]),
             ]
         }
-        (DeallocRun, PastEnd) => vec![
+        (DeallocRunOld | DeallocRun, PastEnd) => vec![
             op(Remove, &[a, b]),
-            op(DeallocRun, &[a, rng.pick(&[cap - a + 1, cap - a + 16, cap + 1, 1 << 63])]),
+            op(call, &[a, rng.pick(&[cap - a + 1, cap - a + 16, cap + 1, 1 << 63])]),
         ],
-        (DeallocRun, SumOver) => {
+        (DeallocRunOld | DeallocRun, SumOver) => {
             let base = a.max(1);
-            vec![op(DeallocRun, &[base, u64::MAX - rng.below(base)])]
+            vec![op(call, &[base, u64::MAX - rng.below(base)])]
         }
-        (DeallocRun, _) => vec![op(DeallocRun, &[rng.pick(&[a, b, a / 16 * 16, 0, cap]), 0])],
+        (DeallocRunOld | DeallocRun, _) => vec![op(call, &[rng.pick(&[a, b, a / 16 * 16, 0, cap]), 0])],
         (Insert | Remove, Done) => vec![op(call, &[a, b])],
         (Insert | Remove, Reversed) => vec![op(call, &[if rng.once_in(8) { past(n, rng) } else { b }, a])],
         (Insert | Remove, PastEnd) => vec![op(call, &[a, past(n, rng).max(cap + 1)])],

@@ -1,6 +1,7 @@
-//! The map and the image as document 01 says them, written from it alone: the words are a list, each rule is a loop over positions,
-//! levels or words, and nothing is clever. It is the judge of what the Rust crate has not (wrong word counts, the check, the image),
-//! and can stand in the place of our side (`compare --model`), so that it is itself held against the crate.
+//! The map and the image as document 01 says them, and the run give-back that is all or nothing as request (vii) does, written from
+//! these alone: the words are a list, each rule is a loop over positions, levels or words, and nothing is clever. It is the judge of
+//! what the Rust crate has not (that give-back, wrong word counts, the check, the image), and can stand in the place of our side
+//! (`compare --model`), so that it is itself held against the crate.
 
 /// A value, or the number of a refusal.
 pub type Said = Result<u64, u64>;
@@ -185,14 +186,33 @@ pub fn dealloc(s: &mut [u16], key: u64) -> Said {
     Ok(0)
 }
 
-pub fn dealloc_contiguous(s: &mut [u16], base: u64, size: u64) -> Said {
-    let n = levels(s.len())? as usize;
-    if base as u128 + size as u128 > positions(n) as u128 {
+/// The levels of a map that has the run's positions.
+fn levels_of_run(s: &[u16], base: u64, size: u64) -> Said {
+    let n = levels(s.len())?;
+    if base as u128 + size as u128 > positions(n as usize) as u128 {
         return Err(2);
     }
     if size == 0 {
         return Err(3);
     }
+    Ok(n)
+}
+
+/// All or nothing.
+pub fn dealloc_contiguous(s: &mut [u16], base: u64, size: u64) -> Said {
+    let n = levels_of_run(s, base, size)? as usize;
+    for p in base..base + size {
+        if leaf(s, n, p) {
+            return Err(6);
+        }
+    }
+    change(s, n, base, base + size, true);
+    Ok(0)
+}
+
+/// As the crate does it.
+pub fn dealloc_contiguous_old(s: &mut [u16], base: u64, size: u64) -> Said {
+    let n = levels_of_run(s, base, size)? as usize;
     let end = base + size;
     // the leaf words of the run in rising order, up to the first with a part of which some is free already
     let mut stays = None;

@@ -93,7 +93,7 @@ impl<T: BitAlloc> Map for Held<T> {
             RunAt => position(map.alloc_contiguous(Some(a), b, c)),
             Next => position(map.next(a)),
             Dealloc => Outcome::Bool(map.dealloc(a)),
-            DeallocRun => Outcome::Bool(map.dealloc_contiguous(a, b)),
+            DeallocRunOld => Outcome::Bool(map.dealloc_contiguous(a, b)),
             Insert => {
                 map.insert(a..b);
                 Outcome::Unit
@@ -104,6 +104,7 @@ impl<T: BitAlloc> Map for Held<T> {
             }
             IsEmpty => Outcome::Bool(map.is_empty()),
             Test => Outcome::Bool(map.test(a)),
+            DeallocRun => unreachable!("the crate has no such call"),
         }));
         IN_THE_CRATE.set(false);
         outcome.unwrap_or(Outcome::Panic)

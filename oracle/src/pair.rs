@@ -1,10 +1,11 @@
-//! The crate's map and ours side by side: each call is made on both, and its answer and every word afterwards are compared.
+//! The crate's map and ours side by side: each call is made on both, and its answer and every word afterwards are compared. The call
+//! that the crate has not is made on the plain model in its place.
 use crate::calls::*;
 use crate::oracle::{self, Map, Outcome};
 use crate::order::Order;
 use crate::paper::{self, Class, CLASSES};
 use crate::plant::Plant;
-use crate::sides::{ours, Answer};
+use crate::sides::{model, ours, Answer};
 use std::collections::BTreeMap;
 
 /// What the maps are: the domain of equality has true maps only.
@@ -18,8 +19,8 @@ pub enum Maps {
 #[derive(Clone)]
 pub struct Tally {
     /// call × class × levels, on true maps and on untrue ones
-    pub met: [[[u64; 6]; CLASSES]; CALLS.len()],
-    pub met_untrue: [[[u64; 6]; CLASSES]; CALLS.len()],
+    pub met: [[[u64; 6]; CLASSES]; ALL.len()],
+    pub met_untrue: [[[u64; 6]; CLASSES]; ALL.len()],
     /// outside the domain: call, class, whether n is 1, what the crate did; how often, and the smallest input met
     pub outside: BTreeMap<(Call, &'static str, bool, String), (u64, Outside)>,
 }
@@ -36,7 +37,7 @@ pub struct Outside {
 
 impl Default for Tally {
     fn default() -> Self {
-        let none = [[[0; 6]; CLASSES]; CALLS.len()];
+        let none = [[[0; 6]; CLASSES]; ALL.len()];
         Tally {
             met: none,
             met_untrue: none,
@@ -47,11 +48,17 @@ impl Default for Tally {
 
 impl Tally {
     pub fn compared(&self, n: usize) -> u64 {
-        self.met.iter().flatten().map(|by_n| by_n[n]).sum()
+        self.met[..CALLS.len()].iter().flatten().map(|by_n| by_n[n]).sum()
     }
 
     pub fn compared_untrue(&self, n: usize) -> u64 {
-        self.met_untrue.iter().flatten().map(|by_n| by_n[n]).sum()
+        self.met_untrue[..CALLS.len()].iter().flatten().map(|by_n| by_n[n]).sum()
+    }
+
+    /// Beside the model, at every size, on true maps and on untrue ones.
+    pub fn beside_model(&self) -> u64 {
+        let met = self.met[CALLS.len()..].iter().chain(&self.met_untrue[CALLS.len()..]);
+        met.flatten().flatten().sum()
     }
 }
 
@@ -63,6 +70,8 @@ pub struct Pair {
     theirs: Box<dyn Map>,
     ours: Vec<u16>,
     before: Vec<u16>,
+    model: Vec<u16>,
+    old: Vec<u16>,
 }
 
 impl Pair {
@@ -76,6 +85,8 @@ impl Pair {
             theirs: oracle::map(n),
             ours: vec![0; words(n)],
             before: vec![0; words(n)],
+            model: vec![0; words(n)],
+            old: vec![0; words(n)],
         }
     }
 
@@ -105,6 +116,9 @@ impl Pair {
 
     /// Makes a call on both sides. The error says how they differ.
     pub fn step(&mut self, o: &Op, tally: &mut Tally) -> Result<Answer, String> {
+        if o.call == DeallocRun {
+            return self.judged(o, tally);
+        }
         let theirs = self.theirs.call(o);
         let mut answer = ours(o, &mut self.ours);
         self.plant.change(o, self.n, &self.before, &mut answer, &mut self.ours);
@@ -150,6 +164,43 @@ impl Pair {
                 self.ours[i]
             ));
         }
+        self.met(o, class, changed, tally);
+        Ok(answer)
+    }
+
+    /// The run give-back that is all or nothing: the model judges it. The old way has to answer the same, and to leave the same words
+    /// where none of the run is free. The crate's map is then set to ours.
+    fn judged(&mut self, o: &Op, tally: &mut Tally) -> Result<Answer, String> {
+        let mut answer = ours(o, &mut self.ours);
+        self.plant.change(o, self.n, &self.before, &mut answer, &mut self.ours);
+        self.model.copy_from_slice(&self.before);
+        let want = model(o, &mut self.model);
+        if answer != want {
+            return Err(format!("the model says {want}; ours says {answer}"));
+        }
+        if self.ours != self.model {
+            let i = (0..).find(|i| self.ours[*i] != self.model[*i]).unwrap();
+            return Err(format!(
+                "both say {want}; word {i} is {:#06x} in the model and {:#06x} in ours",
+                self.model[i], self.ours[i]
+            ));
+        }
+        self.old.copy_from_slice(&self.before);
+        let old = ours(&op(DeallocRunOld, o.numbers()), &mut self.old);
+        if old != answer || answer.refusal == 0 && self.old != self.ours {
+            return Err(format!("ours says {answer}; the old way says {old}, or leaves other words"));
+        }
+        let class = paper::class(o, self.n, answer, self.before[0], self.old != self.before);
+        let changed = self.ours != self.before;
+        if changed {
+            self.order.set(self.theirs.words_mut(), &self.ours);
+        }
+        self.met(o, class, changed, tally);
+        Ok(answer)
+    }
+
+    /// Counts a call that was made and was the same on both sides, and goes on from its words.
+    fn met(&mut self, o: &Op, class: Class, changed: bool, tally: &mut Tally) {
         let met = if self.maps == Maps::True {
             &mut tally.met
         } else {
@@ -159,7 +210,6 @@ impl Pair {
         if changed {
             self.before.copy_from_slice(&self.ours);
         }
-        Ok(answer)
     }
 
     /// The listed difference: a refused dealloc sets each summary bit above its key in the crate, and none in ours. The crate's map

@@ -14,16 +14,17 @@ pub fn refusal(o: &Op, n: usize) -> Option<u64> {
         Run => &[(misfit(b), 4), (a == 0, 3)],
         RunAt => &[(misfit(c) || a % (1 << c) != 0, 4), (b == 0, 3), (a + b > cap, 2)],
         Insert | Remove => &[(a > b || b > cap, 2), (a == b, 3)],
-        DeallocRun => &[(a + b > cap, 2), (b == 0, 3)],
+        DeallocRunOld | DeallocRun => &[(a + b > cap, 2), (b == 0, 3)],
     };
     rules.iter().find(|rule| rule.0).map(|rule| rule.1)
 }
 
 /// The call lies outside the domain of equality: the Rust panics there, or the range is empty. `test`, `dealloc`, `insert`, `remove`
-/// and `dealloc_contiguous` are outside wherever their arguments are refused, but for a run past the end that the Rust answers by false.
+/// and `dealloc_contiguous_old` are outside wherever their arguments are refused, but for a run past the end that the Rust answers by
+/// false.
 pub fn outside(o: &Op, n: usize) -> bool {
-    let past_end_is_false = o.call == DeallocRun && n > 1 && o.args[1] != 0 && o.args[0].checked_add(o.args[1]).is_some();
-    refusal(o, n).is_some() && !matches!(o.call, Run | RunAt) && !past_end_is_false
+    let past_end_is_false = o.call == DeallocRunOld && n > 1 && o.args[1] != 0 && o.args[0].checked_add(o.args[1]).is_some();
+    refusal(o, n).is_some() && !matches!(o.call, Run | RunAt | DeallocRun) && !past_end_is_false
 }
 
 /// What docs/DIFFERENCES.md says that the crate does outside the domain, on a true map: its outcome, and what a panic says. It changes
@@ -34,7 +35,7 @@ pub fn theirs_outside(o: &Op, n: usize) -> (Outcome, &'static str) {
     let (a, b) = match o.call {
         Test if n > 1 => return panic("index out of bounds: the len is 16"),
         Test | Dealloc => return panic("assertion failed: bit < Self::BIT_LENGTH"),
-        DeallocRun => match o.args[0].checked_add(o.args[1]) {
+        DeallocRunOld => match o.args[0].checked_add(o.args[1]) {
             None => return panic("attempt to add with overflow"),
             Some(end) => (o.args[0], end),
         },
@@ -44,8 +45,8 @@ pub fn theirs_outside(o: &Op, n: usize) -> (Outcome, &'static str) {
         (1, _) if a >= 16 => panic("assertion failed: range.start < Self::BIT_LENGTH"),
         (1, _) if b > 16 => panic("assertion failed: range.end <= Self::BIT_LENGTH"),
         (1, _) => panic("assertion failed: range.start < range.end"),
-        (_, DeallocRun) if a > cap => (Outcome::Bool(false), ""),
-        (_, DeallocRun) if a > 0 && a % 16 == 0 => (Outcome::Bool(true), ""),
+        (_, DeallocRunOld) if a > cap => (Outcome::Bool(false), ""),
+        (_, DeallocRunOld) if a > 0 && a % 16 == 0 => (Outcome::Bool(true), ""),
         (_, Insert | Remove) if a > b => panic("assertion failed: start <= end"),
         (_, Insert | Remove) if b > cap => panic("assertion failed: end <= Self::CAP"),
         (_, Insert | Remove) if a > 0 && a % 16 == 0 => (Outcome::Unit, ""),
@@ -71,8 +72,8 @@ pub fn expected(o: &Op, n: usize, theirs: Outcome) -> Result<Answer, &'static st
         (Alloc | Run | RunAt | Next, Outcome::Position(p)) => Ok(given(p)),
         (Alloc | Run | RunAt | Next, Outcome::None) => Ok(refused(5)),
         (Alloc, Outcome::Panic) => Ok(refused(7)),
-        (Dealloc | DeallocRun, Outcome::Bool(true)) => Ok(given(0)),
-        (Dealloc | DeallocRun, Outcome::Bool(false)) => Ok(refused(6)),
+        (Dealloc | DeallocRunOld, Outcome::Bool(true)) => Ok(given(0)),
+        (Dealloc | DeallocRunOld, Outcome::Bool(false)) => Ok(refused(6)),
         (Insert | Remove, Outcome::Unit) => Ok(given(0)),
         (IsEmpty | Test, Outcome::Bool(b)) => Ok(given(b as u64)),
         _ => Err("the crate panics inside the domain"),
@@ -98,12 +99,13 @@ pub enum Class {
     KeyPast,
     FreeAlready,
     EarlierFreed,
+    EarlierKept,
     Untrue,
 }
 
 pub use Class::*;
 
-pub const CLASSES: usize = 17;
+pub const CLASSES: usize = 18;
 
 impl Class {
     pub fn name(self) -> &'static str {
@@ -124,6 +126,7 @@ impl Class {
             KeyPast => "5 key past the end",
             FreeAlready => "6 nothing freed",
             EarlierFreed => "6 earlier words freed",
+            EarlierKept => "6 where the old way changes words",
             Untrue => "7 a 0 word below a set bit",
         }
     }
@@ -137,15 +140,17 @@ pub fn classes(call: Call, n: usize) -> &'static [Class] {
         RunAt => &[Done, Align64, AlignOver, NoMultiple, NoSize, PastEnd, SumOver, NoFit],
         Next => &[Done, NoFit, KeyPast],
         Dealloc => &[Done, FreeAlready, PastEnd],
-        DeallocRun if n == 1 => &[Done, FreeAlready, PastEnd, SumOver, NoSize],
-        DeallocRun => &[Done, FreeAlready, EarlierFreed, PastEnd, SumOver, NoSize],
+        DeallocRunOld | DeallocRun if n == 1 => &[Done, FreeAlready, PastEnd, SumOver, NoSize],
+        DeallocRunOld => &[Done, FreeAlready, EarlierFreed, PastEnd, SumOver, NoSize],
+        DeallocRun => &[Done, FreeAlready, EarlierKept, PastEnd, SumOver, NoSize],
         Insert | Remove => &[Done, Reversed, PastEnd, NoSize],
         IsEmpty => &[Yes, Not],
         Test => &[Yes, Not, PastEnd],
     }
 }
 
-/// The class of an answer, given the arguments, the first word before the call, and whether the call changed any word.
+/// The class of an answer, given the arguments, the first word before the call, and whether the call changed any word; of a
+/// `dealloc_contiguous` whether the old way changes any.
 pub fn class(o: &Op, n: usize, answer: Answer, first_word: u16, changed: bool) -> Class {
     let cap = positions(n);
     let [a, b, c] = o.args;
@@ -166,7 +171,7 @@ pub fn class(o: &Op, n: usize, answer: Answer, first_word: u16, changed: bool) -
                 PastEnd
             }
         }
-        2 if matches!(o.call, RunAt | DeallocRun) => {
+        2 if matches!(o.call, RunAt | DeallocRunOld | DeallocRun) => {
             if a.checked_add(b).is_none() {
                 SumOver
             } else {
@@ -198,13 +203,9 @@ pub fn class(o: &Op, n: usize, answer: Answer, first_word: u16, changed: bool) -
             }
             _ => NoFit,
         },
-        6 => {
-            if changed {
-                EarlierFreed
-            } else {
-                FreeAlready
-            }
-        }
+        6 if !changed => FreeAlready,
+        6 if o.call == DeallocRun => EarlierKept,
+        6 => EarlierFreed,
         _ => Untrue,
     }
 }

@@ -1,7 +1,7 @@
 //! Faults that can be planted in our side, to see that the runs find them and shrink them. Each is met rarely, and depends on the call
 //! and the words alone.
 use crate::calls::*;
-use crate::sides::{refused, Answer};
+use crate::sides::{ours, refused, Answer};
 
 #[derive(Clone, Copy, PartialEq, Eq, Debug)]
 pub enum Plant {
@@ -12,6 +12,8 @@ pub enum Plant {
     Leaf,
     /// one summary bit: a give-back of one position into the last child, where that child was empty, leaves its summary bit 0
     Summary,
+    /// a run give-back that should be all or nothing frees the lower part before it refuses, as the old way does
+    Whole,
 }
 
 impl Plant {
@@ -20,25 +22,29 @@ impl Plant {
             "answer" => Some(Plant::Answer),
             "leaf" => Some(Plant::Leaf),
             "summary" => Some(Plant::Summary),
+            "whole" => Some(Plant::Whole),
             _ => None,
         }
     }
 
     pub fn change(self, o: &Op, n: usize, before: &[u16], answer: &mut Answer, store: &mut [u16]) {
-        if self == Plant::None || n == 1 || answer.refusal != 0 {
+        if self == Plant::None || n == 1 {
             return;
         }
         let child = positions(n - 1);
-        match (self, o.call) {
-            (Plant::Answer, Next) if answer.value % child == child - 1 && o.args[0] / child < answer.value / child => {
+        match (self, o.call, answer.refusal) {
+            (Plant::Answer, Next, 0) if answer.value % child == child - 1 && o.args[0] / child < answer.value / child => {
                 *answer = refused(5)
             }
-            (Plant::Leaf, Insert) if o.args[1] % 256 == 1 && o.args[1] > 256 => {
+            (Plant::Leaf, Insert, 0) if o.args[1] % 256 == 1 && o.args[1] > 256 => {
                 let p = o.args[1] - 1;
                 let at = leaf_word(n, p);
                 store[at] = store[at] & !(1 << (p % 16)) | before[at] & (1 << (p % 16));
             }
-            (Plant::Summary, Dealloc) if o.args[0] / child == 15 && before[0] >> 15 == 0 => store[0] &= 0x7fff,
+            (Plant::Summary, Dealloc, 0) if o.args[0] / child == 15 && before[0] >> 15 == 0 => store[0] &= 0x7fff,
+            (Plant::Whole, DeallocRun, 6) => {
+                ours(&op(DeallocRunOld, o.numbers()), store);
+            }
             _ => {}
         }
     }

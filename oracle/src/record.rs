@@ -32,7 +32,7 @@ pub fn record(r: &mut Runs, folder: &str) -> Ran {
         for _ in 0..200 {
             let call = rng.pick(&CALLS);
             let of_call: Vec<Op> = borders.iter().filter(|o| o.call == call).copied().collect();
-            ops.extend([rng.pick(&of_call), make::any_call(n, &mut rng)]);
+            ops.extend([rng.pick(&of_call), make::any_call(&CALLS, n, &mut rng)]);
         }
         for o in ops.iter().filter(|o| !paper::outside(o, n)) {
             let answer = pair

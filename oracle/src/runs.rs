@@ -28,7 +28,7 @@ pub type Ran = Result<(), Difference>;
 
 impl Runs {
     pub fn new(seed: u64, plant: Plant, less: u64) -> Runs {
-        let sum_overflows = oracle::map(2).call(&op(DeallocRun, &[1, u64::MAX]));
+        let sum_overflows = oracle::map(2).call(&op(DeallocRunOld, &[1, u64::MAX]));
         assert!(sum_overflows == Outcome::Panic, "the crate was built without overflow checks");
         let orders: Vec<Order> = std::iter::once(1).chain(1..=5).map(oracle::order).collect();
         let now = Instant::now();
@@ -126,7 +126,7 @@ impl Runs {
         let mut pair = self.pair(n, Maps::True);
         for word in [0, 0xffff] {
             let start = make::from_leaves(n, &vec![word; cap as usize / 16]);
-            for call in CALLS {
+            for call in ALL {
                 for (a, b) in numbers.iter().flat_map(|a| numbers.iter().map(move |b| (*a, *b))) {
                     let o = match call.arity() {
                         0 => op(call, &[]),
@@ -236,7 +236,7 @@ impl Runs {
     pub fn fill(&mut self, n: usize, least: u64) -> Ran {
         let mut rng = Rng::new(self.seed, 300 + n as u64);
         let mut pair = self.pair(n, Maps::True);
-        for call in CALLS {
+        for call in ALL {
             for class in paper::classes(call, n) {
                 let mut tries = 0;
                 while self.tally.met[call as usize][*class as usize][n] < least {
@@ -273,7 +273,7 @@ impl Runs {
         let mut done = 0;
         while done < calls / self.less {
             let start = make::untrue(n, &mut rng);
-            let ops: Vec<Op> = (0..rng.within(1, 12)).map(|_| make::any_call(n, &mut rng)).collect();
+            let ops: Vec<Op> = (0..rng.within(1, 12)).map(|_| make::any_call(&ALL, n, &mut rng)).collect();
             self.list(&mut pair, Maps::Untrue, &start, &ops)?;
             done += ops.len() as u64;
             self.progress("calls", done, calls / self.less);
@@ -298,12 +298,12 @@ fn random_list(n: usize, length: u64, dense: bool, empties: u64, rng: &mut Rng) 
     let mut ops: Vec<Op> = Vec::new();
     while (ops.len() as u64) < length {
         if rng.once_in(2) {
-            let o = make::any_call(n, rng);
+            let o = make::any_call(&ALL, n, rng);
             if !(dense && heavy(o.call, o.args[1], n)) || rng.once_in(12) {
                 ops.push(o);
             }
         } else {
-            let call = rng.pick(&CALLS);
+            let call = rng.pick(&ALL);
             let class = rng.pick(paper::classes(call, n));
             let seldom = make::empties(call, class) && !rng.once_in(empties) || dense && heavy(call, 0, n) && !rng.once_in(4);
             if !seldom {
@@ -324,7 +324,7 @@ fn every_argument() -> Vec<Op> {
     for a in &numbers {
         ops.extend([Next, Dealloc, Test].map(|call| op(call, &[*a])));
         for b in &numbers {
-            ops.extend([DeallocRun, Insert, Remove].map(|call| op(call, &[*a, *b])));
+            ops.extend([DeallocRunOld, DeallocRun, Insert, Remove].map(|call| op(call, &[*a, *b])));
             ops.extend(aligns.iter().map(|c| op(RunAt, &[*a, *b, *c])));
         }
         ops.extend(aligns.iter().map(|c| op(Run, &[*a, *c])));
@@ -372,8 +372,7 @@ pub fn border_calls(n: usize) -> Vec<Op> {
     for a in &keys {
         ops.extend([Next, Dealloc, Test].map(|call| op(call, &[*a])));
         for b in &sizes {
-            ops.push(op(DeallocRun, &[*a, *b]));
-            ops.extend([Insert, Remove].map(|call| op(call, &[*a, *b])));
+            ops.extend([DeallocRunOld, DeallocRun, Insert, Remove].map(|call| op(call, &[*a, *b])));
             ops.extend(aligns.iter().map(|c| op(RunAt, &[*a, *b, *c])));
         }
         ops.extend(aligns.iter().map(|c| op(Run, &[*a, *c])));

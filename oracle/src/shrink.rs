@@ -101,7 +101,7 @@ impl Shrinker<'_> {
                 let moved = |o: &Op| {
                     let mut o = *o;
                     let named = match o.call {
-                        Next | Dealloc | Test | RunAt | DeallocRun => 1,
+                        Next | Dealloc | Test | RunAt | DeallocRunOld | DeallocRun => 1,
                         Insert | Remove => 2,
                         Alloc | Run | IsEmpty => 0,
                     };

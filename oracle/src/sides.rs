@@ -38,6 +38,7 @@ extern "C" {
     fn asogeren_next(store: *const u16, words: usize, key: usize) -> Answer;
     fn asogeren_dealloc(store: *mut u16, words: usize, key: usize) -> Answer;
     fn asogeren_dealloc_contiguous(store: *mut u16, words: usize, base: usize, size: usize) -> Answer;
+    fn asogeren_dealloc_contiguous_old(store: *mut u16, words: usize, base: usize, size: usize) -> Answer;
     fn asogeren_insert(store: *mut u16, words: usize, start: usize, end: usize) -> Answer;
     fn asogeren_remove(store: *mut u16, words: usize, start: usize, end: usize) -> Answer;
     fn asogeren_is_empty(store: *const u16, words: usize) -> Answer;
@@ -59,11 +60,12 @@ pub fn ours(o: &Op, store: &mut [u16]) -> Answer {
             RunAt => asogeren_alloc_contiguous_at(s, w, a, b, c),
             Next => asogeren_next(s, w, a),
             Dealloc => asogeren_dealloc(s, w, a),
-            DeallocRun => asogeren_dealloc_contiguous(s, w, a, b),
+            DeallocRunOld => asogeren_dealloc_contiguous_old(s, w, a, b),
             Insert => asogeren_insert(s, w, a, b),
             Remove => asogeren_remove(s, w, a, b),
             IsEmpty => asogeren_is_empty(s, w),
             Test => asogeren_test(s, w, a),
+            DeallocRun => asogeren_dealloc_contiguous(s, w, a, b),
         }
     }
 }
@@ -90,11 +92,12 @@ pub fn model(o: &Op, store: &mut [u16]) -> Answer {
         RunAt => m::alloc_contiguous_at(store, a, b, c),
         Next => m::next(store, a),
         Dealloc => m::dealloc(store, a),
-        DeallocRun => m::dealloc_contiguous(store, a, b),
+        DeallocRunOld => m::dealloc_contiguous_old(store, a, b),
         Insert => m::insert(store, a, b),
         Remove => m::remove(store, a, b),
         IsEmpty => m::is_empty(store),
         Test => m::test(store, a),
+        DeallocRun => m::dealloc_contiguous(store, a, b),
     })
 }
 
@@ -125,6 +128,7 @@ mod model_as_ours {
     stands_in!(asogeren_next, next, key);
     stands_in!(asogeren_dealloc, dealloc, mut key);
     stands_in!(asogeren_dealloc_contiguous, dealloc_contiguous, mut base, size);
+    stands_in!(asogeren_dealloc_contiguous_old, dealloc_contiguous_old, mut base, size);
     stands_in!(asogeren_insert, insert, mut start, end);
     stands_in!(asogeren_remove, remove, mut start, end);
     stands_in!(asogeren_is_empty, is_empty,);
