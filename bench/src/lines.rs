@@ -13,6 +13,7 @@ pub enum Call {
     Run,
     RunAt,
     GiveRun,
+    GiveRunOld,
     /// check and image, which the crate has not
     Whole(whole::Call),
 }
@@ -30,7 +31,7 @@ impl Line {
     /// Whether a turn may follow a turn without the map being set back, each doing what the first did: the map is only read or the turn
     /// restores it; or the words are written whatever they were.
     pub fn repeats(&self) -> bool {
-        !matches!(self.call, Call::Take | Call::Run | Call::RunAt | Call::GiveRun)
+        !matches!(self.call, Call::Take | Call::Run | Call::RunAt | Call::GiveRun | Call::GiveRunOld)
     }
 
     /// Whether a turn leaves another map.
@@ -55,7 +56,7 @@ const fn at_most(target: f64) -> Option<[f64; 3]> {
 
 /// The lines beside the crate, at n = 3, 4 and 5.
 #[rustfmt::skip]
-pub const LINES: [Line; 22] = [
+pub const LINES: [Line; 26] = [
     line("half", "take and give back, half full", Call::TakeAndGive, plans::lowest_of_half, at_most(1.0)),
     line("few", ".. nearly full", Call::TakeAndGive, plans::lowest_of_few, at_most(1.0)),
     line("only", ".. the only free position", Call::TakeAndGive, plans::the_only_one, at_most(1.2)),
@@ -73,11 +74,21 @@ pub const LINES: [Line; 22] = [
     line("run-1000", "run of 1,000, fragmented", Call::Run, plans::run_of_1000, at_most(0.15)),
     line("run-1000-by-64", ".. aligned to 64", Call::Run, plans::run_of_1000_by_64, at_most(0.15)),
     line("run-64-at", "run of 64 at a base, all free", Call::RunAt, plans::runs_at, at_most(0.15)),
-    line("give-64", "give back a run of 64", Call::GiveRun, plans::runs_to_give, at_most(0.95)),
-    line("give-half", "give back half the map", Call::GiveRun, plans::half_to_give, at_most(0.50)),
+    line("old-64", "give back a run of 64, the crate's way", Call::GiveRunOld, plans::runs_to_give, at_most(0.95)),
+    line("old-half", ".. half the map", Call::GiveRunOld, plans::half_to_give, at_most(0.50)),
+    line("give-64", "give back a run of 64, all or nothing", Call::GiveRun, plans::runs_to_give, None),
+    line("give-half", ".. half the map", Call::GiveRun, plans::half_to_give, None),
+    line("insert-64", "insert the same 64", Call::Insert, plans::runs_to_insert, None),
+    line("insert-taken", ".. half the map", Call::Insert, plans::half_to_insert, None),
     line("check", "check of the whole map *", Call::Whole(whole::Call::Check), plans::whole, None),
     line("write", "image written *", Call::Whole(whole::Call::Write), plans::whole, None),
     line("read", "image read *", Call::Whole(whole::Call::Read), plans::whole, None),
+];
+
+/// The lines of LINES that do the same to the same maps: a run given back all or nothing, the crate's way, and inserted.
+pub const GIVEN: [(&str, [&str; 3]); 2] = [
+    ("64 positions", ["give-64", "old-64", "insert-64"]),
+    ("half the map", ["give-half", "old-half", "insert-taken"]),
 ];
 
 /// The lines of the table of growth, beside the crate at n = 1 to 6.

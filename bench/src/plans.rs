@@ -149,6 +149,20 @@ pub fn half_to_give(n: usize) -> Plan {
     plan(&leaves, vec![[a, b - a, 0]])
 }
 
+/// The same runs as ranges, which insert takes.
+fn ranges(runs: Plan) -> Plan {
+    let args = runs.args.into_iter().map(|[base, size, _]| [base, base + size, 0]).collect();
+    Plan { args, ..runs }
+}
+
+pub fn runs_to_insert(n: usize) -> Plan {
+    ranges(runs_to_give(n))
+}
+
+pub fn half_to_insert(n: usize) -> Plan {
+    ranges(half_to_give(n))
+}
+
 pub fn whole(n: usize) -> Plan {
     plan(&Leaves::half(n), vec![])
 }

@@ -73,6 +73,7 @@ impl<S: Side> Turns for Run<S> {
             Call::Run => self.each(times, |map, [size, align, _]| S::counted_run(map, size, align)),
             Call::RunAt => self.each(times, |map, [base, size, align]| S::counted_run_at(map, base, size, align)),
             Call::GiveRun => self.each(times, |map, [base, size, _]| S::counted_give_run(map, base, size)),
+            Call::GiveRunOld => self.each(times, |map, [base, size, _]| S::counted_give_run_old(map, base, size)),
             Call::Whole(_) => unreachable!(),
         }
     }
@@ -94,6 +95,7 @@ impl<S: Side> Turns for Run<S> {
             Call::Run => S::position(S::counted_run(map, a, b)),
             Call::RunAt => S::position(S::counted_run_at(map, a, b, c)),
             Call::GiveRun => S::done(S::counted_give_run(map, a, b)),
+            Call::GiveRunOld => S::done(S::counted_give_run_old(map, a, b)),
             Call::Whole(_) => unreachable!(),
         };
         [one, 0]

@@ -46,6 +46,7 @@ pub trait Side {
     fn counted_test(map: &Self::Map, key: usize) -> Self::Told;
     fn counted_give(map: &mut Self::Map, key: usize) -> Self::Done;
     fn counted_give_run(map: &mut Self::Map, base: usize, size: usize) -> Self::Done;
+    fn counted_give_run_old(map: &mut Self::Map, base: usize, size: usize) -> Self::Done;
     fn counted_insert(map: &mut Self::Map, start: usize, end: usize) -> Self::Nothing;
     fn counted_remove(map: &mut Self::Map, start: usize, end: usize) -> Self::Nothing;
 }
@@ -117,6 +118,7 @@ impl Side for Ours {
     ours!(counted_test, asogeren_test, key);
     ours!(counted_give, asogeren_dealloc, mut, key);
     ours!(counted_give_run, asogeren_dealloc_contiguous, mut, base, size);
+    ours!(counted_give_run_old, asogeren_dealloc_contiguous_old, mut, base, size);
     ours!(counted_insert, asogeren_insert, mut, start, end);
     ours!(counted_remove, asogeren_remove, mut, start, end);
 }
@@ -214,8 +216,14 @@ impl<T: BitAlloc> Side for Theirs<T> {
         apart!();
         map.dealloc(key)
     }
+    // the crate has one: beside the default it stands for the same where no position of the run is free
     #[inline(never)]
     fn counted_give_run(map: &mut T, base: usize, size: usize) -> bool {
+        apart!();
+        map.dealloc_contiguous(base, size)
+    }
+    #[inline(never)]
+    fn counted_give_run_old(map: &mut T, base: usize, size: usize) -> bool {
         apart!();
         map.dealloc_contiguous(base, size)
     }

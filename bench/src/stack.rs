@@ -103,6 +103,9 @@ fn tried() -> Vec<(&'static str, usize)> {
         t.each("asogeren_dealloc_contiguous", |s, c| unsafe {
             sys::asogeren_dealloc_contiguous(s, c, a, b - a)
         });
+        t.each("asogeren_dealloc_contiguous_old", |s, c| unsafe {
+            sys::asogeren_dealloc_contiguous_old(s, c, a, b - a)
+        });
         t.each("asogeren_insert", |s, c| unsafe { sys::asogeren_insert(s, c, a, b) });
         t.each("asogeren_remove", |s, c| unsafe { sys::asogeren_remove(s, c, a, b) });
     }

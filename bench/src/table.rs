@@ -1,6 +1,6 @@
 //! The tables, in Markdown, made from what the other modes wrote. Ends with status 1 where a run of one costs more than three takes.
 use crate::calls::words;
-use crate::lines::{Line, GROWTH, LINES, ONES};
+use crate::lines::{Line, GIVEN, GROWTH, LINES, ONES};
 use std::collections::HashMap;
 use std::process::ExitCode;
 
@@ -140,6 +140,25 @@ impl Tables {
         }
     }
 
+    /// The two run give-backs beside each other and beside insert.
+    fn given(&self) {
+        println!("\n## A run given back\n\nOurs, of a run of which no position is free: all or nothing, the crate's way, and insert of the same range. Instructions of one call, and the ratios of instructions and of time.\n");
+        println!("| run | n | all or nothing | the crate's way | insert | over the crate's way | over insert |\n|---|---|---|---|---|---|---|");
+        for (run, ids) in GIVEN {
+            for n in 3..=5 {
+                let figures = |of: &Figures| ids.map(|id| of.get(&(id.to_string(), n, "ours".to_string())).copied());
+                let [counts, times] = [figures(&self.counts), figures(&self.times)];
+                let over = |i: usize| {
+                    let ratio = |of: [Option<f64>; 3]| Some(of[0]? / of[i]?);
+                    let time = ratio(times).map_or("".to_string(), |r| format!(", in time {r:.2}"));
+                    ratio(counts).map_or("".to_string(), |r| format!("{r:.2}{time}"))
+                };
+                let cells = counts.map(|count| grouped(count.expect("a count")));
+                println!("| {run} | {n} | {} | {} | {} |", cells.join(" | "), over(1), over(2));
+            }
+        }
+    }
+
     fn growth(&self) {
         println!("\n## How the cost grows\n\nInstructions of one call, ours : the crate's. A level more is 16 times the positions. At n = 1 the run is of 8 positions: one of 64 does not fit.\n");
         println!(
@@ -206,6 +225,7 @@ pub fn print(folder: &str) -> ExitCode {
     };
     tables.beside();
     tables.absolute();
+    tables.given();
     tables.growth();
     let fits = tables.ones();
     if !tables.stacks.is_empty() {
