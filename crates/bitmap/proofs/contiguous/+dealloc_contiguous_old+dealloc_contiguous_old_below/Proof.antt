@@ -1,6 +1,6 @@
--- The proof of the cycle of calls {contiguous::dealloc_contiguous_old, contiguous::dealloc_contiguous_old_below}. The measure is 2 k for a map of
--- level k, and 2 k + 1 for the table. The loop is the one of `Walk` and `Turn`, each of the children becoming what a give-back leaves of
--- it; `ok` is `taken?`. Assumes nothing.
+-- The proof of the cycle of calls {contiguous::dealloc_contiguous_old, contiguous::dealloc_contiguous_old_below}. The measure is 2 k for a
+-- map of level k, and 2 k + 1 for the table. The loop is the one of `Walk` and `Turn`, each of the children becoming what a give-back
+-- leaves of it; `ok` is `taken?`. Assumes nothing.
 use mathlib.Core.Path.{_≡_, refl, sym, ap, _∙_}
 use mathlib.Core.Bool.{Bool}
 use mathlib.Core.Logic.{⊎-elim}
