@@ -3,9 +3,7 @@
 use mathlib.Core.Path.{_≡_, refl, sym, ap, _∙_}
 use mathlib.Core.List.{List}
 use Prim.Native.Nat.{ℕ}
-use contract.Lifetimes.{Lfts}
-use denote.Triple.Clauses.{Ended, Lasts, AtExit, atExit}
-use borrow.Fn.World.{ArgsD, ResD}
+use Rattle.bitmap.specs.Once.{OneAnswer}
 use Rattle.asogeren.proofs.asogeren_alloc as alloc
 use Rattle.asogeren.proofs.asogeren_alloc.Reads as alloc-reads
 use Rattle.asogeren.proofs.asogeren_alloc_contiguous as alloc-contiguous
@@ -34,18 +32,6 @@ use Rattle.asogeren.proofs.asogeren_image_write as image-write
 use Rattle.asogeren.proofs.asogeren_image_write.Reads as image-write-reads
 use Rattle.asogeren.proofs.asogeren_image_read as image-read
 use Rattle.asogeren.proofs.asogeren_image_read.Reads as image-read-reads
-
--- what a contract says of a call: its lifetimes and parameters, its result, and the parameters at exit
-abbrev Contract : Ended → Type 1
-Contract T = (κs : Lfts (T .signature .lifetimes)) → ArgsD (T .signature) κs → ResD (T .signature) κs → AtExit T κs → Type 0
-
--- it leaves one result and one last value of each word and byte lent to be written
-abbrev OneAnswer : (T : Ended) → Contract T → Type 0
-OneAnswer T Post =
-    (κs : Lfts (T .signature .lifetimes)) (a : ArgsD (T .signature) κs) (r₁ r₂ : ResD (T .signature) κs) (w₁ w₂ : Lasts T κs a)
-    → Post κs a r₁ (atExit T κs a w₁)
-    → Post κs a r₂ (atExit T κs a w₂)
-    → (r₁ ≡ r₂) × (w₁ ≡ w₂)
 
 -- one of each where equations give the result and what one slice holds, which stands in the last values as `last` says
 once : {A C : Type 0} {r₁ r₂ r : A} {l₁ l₂ l : List ℕ} (last : List ℕ → C)

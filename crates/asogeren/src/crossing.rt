@@ -10,7 +10,7 @@ use bitmap::Told;
 use image::Got;
 use image::Wrote;
 
-// What every exported call returns: refusal 0 and a value, or document 01's number of the refusal and value 0.
+// What every exported call returns: refusal 0 and a value, or the number of the refusal and value 0.
 #[repr(C)]
 pub struct Answer {
     pub refusal: u64,
@@ -30,25 +30,8 @@ pub fn of_refusal(n: Refusal) -> Answer
     ensures { λ r. ⌜ r ≡ crossed (refused (number n)) ⌝ }
 {
     Answer {
-        refusal: number_of(n),
+        refusal: bitmap::number(n) as u64,
         value: 0,
-    }
-}
-
-fn number_of(n: Refusal) -> u64
-    ensures { λ r. ⌜ r ≡ number n ⌝ }
-{
-    match n {
-        Refusal::WordCount => 1,
-        Refusal::PastEnd => 2,
-        Refusal::NoSize => 3,
-        Refusal::Alignment => 4,
-        Refusal::NoneFree => 5,
-        Refusal::AlreadyFree => 6,
-        Refusal::Untrue => 7,
-        Refusal::BadImage => 8,
-        Refusal::TooShort => 9,
-        Refusal::BadLine => 10,
     }
 }
 

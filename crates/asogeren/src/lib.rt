@@ -1,10 +1,8 @@
 // The C library: an exported function for each public call of the map and of the image, with the call's own definitions in its contract.
 // include/asogeren.h declares them for C. Every one is total: it takes any words, bytes and numbers.
 ghost use mathlib.Core.Path.{_≡_};
-ghost use Rattle.bitmap.specs.declared.cascade.Change.the-variants.{Insert, Remove};
-ghost use Rattle.bitmap.specs.declared.contiguous.Base.the-variants.{Any, At};
-ghost use Rattle.bitmap.specs.declared.contiguous.Way.the-variants.{Whole, Old};
-ghost use Rattle.bitmap.specs.Calls.{answer, after, allocSays, allocAfter, runSays, runAfter, nextSays, giveSays, giveAfter, giveRunSays, giveRunAfter, rangeSays, rangeAfter, emptySays, testSays, checkSays};
+ghost use Rattle.bitmap.specs.declared.base.Base.the-variants.{Any, At};
+ghost use Rattle.bitmap.specs.Calls.{answer, after, allocSays, allocAfter, runSays, runAfter, nextSays, giveSays, giveAfter, giveRunSays, giveRunAfter, giveRunOldAfter, rangeSays, insertAfter, removeAfter, emptySays, testSays, checkSays};
 ghost use Rattle.image.specs.Calls.{writeSays, writeAfter, readSays, readAfter};
 ghost use Rattle.asogeren.specs.Crossed.{crossed};
 
@@ -64,14 +62,18 @@ pub extern "C" fn asogeren_dealloc(store: &mut [u16], key: usize) -> Answer
     ensures { λ r. ⌜ r ≡ crossed (answer (giveSays key) (now (store .entry))) ⌝ }
     ensures { λ _. ⌜ now (store .exit) ≡ after (giveAfter key) (now (store .entry)) ⌝ }
 {
-    crossing::from_changed(bitmap::dealloc(store, key))
+    // Matched in place, here and in insert and remove: handed on as a value, the answer is copied.
+    match bitmap::dealloc(store, key) {
+        Changed::Done => crossing::of_value(0),
+        Changed::No(n) => crossing::of_refusal(n),
+    }
 }
 
 // Gives size positions from base on back: all of them, or none where one was free already.
 #[no_mangle]
 pub extern "C" fn asogeren_dealloc_contiguous(store: &mut [u16], base: usize, size: usize) -> Answer
     ensures { λ r. ⌜ r ≡ crossed (answer (giveRunSays base size) (now (store .entry))) ⌝ }
-    ensures { λ _. ⌜ now (store .exit) ≡ after (giveRunAfter Whole base size) (now (store .entry)) ⌝ }
+    ensures { λ _. ⌜ now (store .exit) ≡ after (giveRunAfter base size) (now (store .entry)) ⌝ }
 {
     crossing::from_changed(bitmap::dealloc_contiguous(store, base, size))
 }
@@ -84,7 +86,7 @@ pub extern "C" fn asogeren_dealloc_contiguous_old(
     size: usize,
 ) -> Answer
     ensures { λ r. ⌜ r ≡ crossed (answer (giveRunSays base size) (now (store .entry))) ⌝ }
-    ensures { λ _. ⌜ now (store .exit) ≡ after (giveRunAfter Old base size) (now (store .entry)) ⌝ }
+    ensures { λ _. ⌜ now (store .exit) ≡ after (giveRunOldAfter base size) (now (store .entry)) ⌝ }
 {
     crossing::from_changed(bitmap::dealloc_contiguous_old(store, base, size))
 }
@@ -93,9 +95,8 @@ pub extern "C" fn asogeren_dealloc_contiguous_old(
 #[no_mangle]
 pub extern "C" fn asogeren_insert(store: &mut [u16], start: usize, end: usize) -> Answer
     ensures { λ r. ⌜ r ≡ crossed (answer (rangeSays start end) (now (store .entry))) ⌝ }
-    ensures { λ _. ⌜ now (store .exit) ≡ after (rangeAfter Insert start end) (now (store .entry)) ⌝ }
+    ensures { λ _. ⌜ now (store .exit) ≡ after (insertAfter start end) (now (store .entry)) ⌝ }
 {
-    // Matched in place, here and in remove: handed on as a value, the answer is copied.
     match bitmap::insert(store, start, end) {
         Changed::Done => crossing::of_value(0),
         Changed::No(n) => crossing::of_refusal(n),
@@ -106,7 +107,7 @@ pub extern "C" fn asogeren_insert(store: &mut [u16], start: usize, end: usize) -
 #[no_mangle]
 pub extern "C" fn asogeren_remove(store: &mut [u16], start: usize, end: usize) -> Answer
     ensures { λ r. ⌜ r ≡ crossed (answer (rangeSays start end) (now (store .entry))) ⌝ }
-    ensures { λ _. ⌜ now (store .exit) ≡ after (rangeAfter Remove start end) (now (store .entry)) ⌝ }
+    ensures { λ _. ⌜ now (store .exit) ≡ after (removeAfter start end) (now (store .entry)) ⌝ }
 {
     match bitmap::remove(store, start, end) {
         Changed::Done => crossing::of_value(0),

@@ -1,27 +1,17 @@
 -- An answer by the tests that lead to it: at each refusal the test holds, or it does not and the rest is the answer. Assumes nothing.
 use mathlib.Core.Path.{_≡_, refl, sym, _∙_}
-use mathlib.Core.Bool.{Bool, true, false, _||_}
+use mathlib.Core.Bool.{Bool, true, false}
 use mathlib.Core.List.{List}
 use Prim.Native.Nat.{ℕ}
 use native.Mathlib.Omega.{arith}
 use Rattle.bitmap.specs.Answer.{Said, given, refused, refuse}
 use Rattle.bitmap.specs.Calls.{settle}
 
-pub no : (n : ℕ) (b : Bool) (rest : Said) → b ≡ true → refused n ≡ refuse n b rest
-no n b rest e = sym (rw e)
+pub refuses : (n : ℕ) (b : Bool) (rest : Said) → b ≡ true → refused n ≡ refuse n b rest
+refuses n b rest e = sym (rw e)
 
-pub on : {x : Said} (n : ℕ) (b : Bool) (rest : Said) → b ≡ false → x ≡ rest → x ≡ refuse n b rest
-on n b rest e h = h ∙ sym (rw e)
-
--- either of two tests, and neither
-pub or-left : (a b : Bool) → a ≡ true → (a || b) ≡ true
-or-left a b e = rw e
-
-pub or-right : (a b : Bool) → a ≡ false → b ≡ true → (a || b) ≡ true
-or-right a b e h = rw (e, h)
-
-pub neither : (a b : Bool) → a ≡ false → b ≡ false → (a || b) ≡ false
-neither a b e h = rw (e, h)
+pub passes : {x : Said} (n : ℕ) (b : Bool) (rest : Said) → b ≡ false → x ≡ rest → x ≡ refuse n b rest
+passes n b rest e h = h ∙ sym (rw e)
 
 -- the words after an answer that is known
 pub settle-no : (x : Said) (n : ℕ) (s : List ℕ) (f : ℕ → List ℕ) → refused n ≡ x → s ≡ settle x s f

@@ -1,69 +1,70 @@
--- What the look-up of a run says, case by case, in the order of the refusals. Assumes nothing.
+-- What the look-up of a run says, case by case, in the order of the refusals, and what it says that one is given. Assumes nothing.
 use mathlib.Core.Path.{_≡_, refl, sym, ap}
-use mathlib.Core.Bool.{Bool, true, false, not, _||_, true≢false}
+use mathlib.Core.Bool.{true, false, not}
 use mathlib.Core.List.{List}
-use Prim.Native.Nat.{ℕ, _+_, _^_, _≤_, _<_}
+use Prim.Native.Nat.{ℕ, _+_, _≤_, _<_}
 use native.Mathlib.Omega.{arith}
-use lib.Dec.{leb, ltb}
-use borrow.Author.Tests.{leb-false, ltb-false, le-leb, lt-leb, lt-ltb, le-ltb, eq-eqb, ne-eqb}
-use Rattle.bitmap.specs.declared.contiguous.Base.the-variants.{Any, At}
-use Rattle.bitmap.specs.Tree.{cap, free?}
-use Rattle.bitmap.specs.Run.{aligned, run?, runIn}
-use Rattle.bitmap.specs.Answer.{given, refused}
-use Rattle.bitmap.specs.Calls.{misfit, runSays}
-use Rattle.bitmap.proofs.Refusals.{no, on, or-left, or-right, neither}
+use lib.Dec.{eqb, leb, ltb}
+use borrow.Author.Tests.{le-leb, lt-leb, leb-false, lt-ltb, le-ltb, ltb-false, eq-eqb, ne-eqb, eqb-false}
+use Rattle.words.specs.Sizes.{cap}
+use Rattle.words.specs.Tree.{free?}
+use Rattle.words.specs.Run.{run?, runIn}
+use Rattle.look.proofs.Runs.{run-found}
+use Rattle.bitmap.specs.declared.base.Base.{Base}
+use Rattle.bitmap.specs.declared.base.Base.the-variants.{Any, At}
+use Rattle.bitmap.specs.Answer.{Said, given, refused, refuse}
+use Rattle.bitmap.specs.Calls.{misplaced, foundRun, runSays}
+use Rattle.bitmap.proofs.Refusals.{refuses, passes, given-on}
 
-none-of : (a b : Bool) → (a || b) ≡ false → (a ≡ false) × (b ≡ false)
-none-of false b e = (refl, e)
-none-of true b e = absurd (true≢false e)
+module _ (base : Base) (size align k : ℕ) (s : List ℕ) where
+  pub run-misplaced : misplaced base align (cap k) ≡ true → refused 4 ≡ runSays base size align k s
+  run-misplaced e = refuses 4 _ _ e
 
--- an alignment that fits
-pub fits-align : (n align : ℕ) → misfit n align ≡ false → (align < 64) × (2 ^ align ≤ n)
-fits-align n align e =
-    let p = none-of (leb 64 align) (ltb n (2 ^ align)) e in
-    (leb-false 64 align (p .0), ltb-false n (2 ^ align) (p .1))
+  module _ (fits : misplaced base align (cap k) ≡ false) where
+    pub run-empty : size ≡ 0 → refused 3 ≡ runSays base size align k s
+    run-empty e = passes 4 _ _ fits (refuses 3 _ _ (eq-eqb size 0 e))
+
+    pub run-some : {x : Said} → (size ≡ 0 → ⊥) → x ≡ foundRun base size align k s → x ≡ runSays base size align k s
+    run-some some e = passes 4 _ _ fits (passes 3 _ _ (ne-eqb size 0 some) e)
 
 module _ (size align k : ℕ) (s : List ℕ) where
   -- ---- anywhere
 
-  pub any-misfit : misfit (cap k) align ≡ true → refused 4 ≡ runSays Any size align k s
-  any-misfit e = no 4 _ _ e
+  pub any-none : cap k ≤ runIn (free? k s) (cap k) size align → refused 5 ≡ foundRun Any size align k s
+  any-none l = refuses 5 _ _ (le-leb (cap k) _ l)
 
-  module _ (ok : misfit (cap k) align ≡ false) where
-    pub any-empty : size ≡ 0 → refused 3 ≡ runSays Any size align k s
-    any-empty e = on 4 _ _ ok (no 3 _ _ (eq-eqb size 0 e))
-
-    module _ (some : size ≡ 0 → ⊥) where
-      pub any-none : runIn (free? k s) (cap k) size align ≡ cap k → refused 5 ≡ runSays Any size align k s
-      any-none e = on 4 _ _ ok (on 3 _ _ (ne-eqb size 0 some) (no 5 _ _ (le-leb (cap k) _ (omega arith))))
-
-      pub any-found : (b : ℕ) → runIn (free? k s) (cap k) size align ≡ b → b < cap k → given b ≡ runSays Any size align k s
-      any-found b e l = on 4 _ _ ok (on 3 _ _ (ne-eqb size 0 some) (on 5 _ _ (lt-leb (cap k) _ (omega arith)) (ap given (sym e))))
+  pub any-found : (b : ℕ) → runIn (free? k s) (cap k) size align ≡ b → b < cap k → given b ≡ foundRun Any size align k s
+  any-found b e l = passes 5 _ _ (lt-leb (cap k) _ (omega arith)) (ap given (sym e))
 
   -- ---- at a base
 
   module _ (b : ℕ) where
-    pub at-misfit : misfit (cap k) align ≡ true → refused 4 ≡ runSays (At b) size align k s
-    at-misfit e = no 4 _ _ (or-left (misfit (cap k) align) (not (aligned align b)) e)
+    pub at-past : cap k < b + size → refused 2 ≡ foundRun (At b) size align k s
+    at-past l = refuses 2 _ _ (lt-ltb (cap k) (b + size) l)
 
-    module _ (ok : misfit (cap k) align ≡ false) where
-      pub at-between : aligned align b ≡ false → refused 4 ≡ runSays (At b) size align k s
-      at-between e = no 4 _ _ (or-right (misfit (cap k) align) (not (aligned align b)) ok (ap not e))
+    module _ (room : b + size ≤ cap k) where
+      pub at-held : run? (free? k s) (cap k) size align b ≡ false → refused 5 ≡ foundRun (At b) size align k s
+      at-held e = passes 2 _ _ (le-ltb (cap k) (b + size) room) (refuses 5 _ _ (ap not e))
 
-      module _ (multiple : aligned align b ≡ true) where
-        fit : (misfit (cap k) align || not (aligned align b)) ≡ false
-        fit = neither (misfit (cap k) align) (not (aligned align b)) ok (ap not multiple)
+      pub at-found : run? (free? k s) (cap k) size align b ≡ true → given b ≡ foundRun (At b) size align k s
+      at-found e = passes 2 _ _ (le-ltb (cap k) (b + size) room) (passes 5 _ _ (ap not e) refl)
 
-        pub at-empty : size ≡ 0 → refused 3 ≡ runSays (At b) size align k s
-        at-empty e = on 4 _ _ fit (no 3 _ _ (eq-eqb size 0 e))
+-- ---- a run is given: it is not empty and lies in the map
 
-        module _ (some : size ≡ 0 → ⊥) where
-          pub at-past : cap k < b + size → refused 2 ≡ runSays (At b) size align k s
-          at-past l = on 4 _ _ fit (on 3 _ _ (ne-eqb size 0 some) (no 2 _ _ (lt-ltb (cap k) (b + size) l)))
+found-fits : (base : Base) (size align k : ℕ) (s : List ℕ) (b : ℕ) → given b ≡ foundRun base size align k s → b + size ≤ cap k
+found-fits Any size align k s b e =
+    let r = runIn (free? k s) (cap k) size align in
+    let h = given-on b 5 (leb (cap k) r) (given r) e in
+    let is : b ≡ r = cc (h .1) in
+    omega (arith, run-found (free? k s) (cap k) size align r refl (leb-false (cap k) r (h .0)) .0 .fits)
+found-fits (At p) size align k s b e =
+    let held = not (run? (free? k s) (cap k) size align p) in
+    let h = given-on b 2 (ltb (cap k) (p + size)) (refuse 5 held (given p)) e in
+    let is : b ≡ p = cc (given-on b 5 held (given p) (h .1) .1) in
+    omega (arith, ltb-false (cap k) (p + size) (h .0))
 
-          module _ (room : b + size ≤ cap k) where
-            pub at-held : run? (free? k s) (cap k) size align b ≡ false → refused 5 ≡ runSays (At b) size align k s
-            at-held e = on 4 _ _ fit (on 3 _ _ (ne-eqb size 0 some) (on 2 _ _ (le-ltb (cap k) (b + size) room) (no 5 _ _ (ap not e))))
-
-            pub at-found : run? (free? k s) (cap k) size align b ≡ true → given b ≡ runSays (At b) size align k s
-            at-found e = on 4 _ _ fit (on 3 _ _ (ne-eqb size 0 some) (on 2 _ _ (le-ltb (cap k) (b + size) room) (on 5 _ _ (ap not e) refl)))
+pub run-fits : (base : Base) (size align k : ℕ) (s : List ℕ) (b : ℕ) → given b ≡ runSays base size align k s → (0 < size) × (b + size ≤ cap k)
+run-fits base size align k s b e =
+    let found = foundRun base size align k s in
+    let h = given-on b 3 (eqb size 0) found (given-on b 4 (misplaced base align (cap k)) (refuse 3 (eqb size 0) found) e .1) in
+    (omega (arith, eqb-false size 0 (h .0)), found-fits base size align k s b (h .1))

@@ -8,9 +8,9 @@ use lib.ListN.{length}
 use lib.Dec.{leb}
 use borrow.Author.Tests.{lt-leb}
 use Rattle.bitmap.specs.Answer.{Said, given, refused, refuse}
-use Rattle.bitmap.specs.Tree.{words}
-use Rattle.bitmap.specs.Calls.{levelOf, answer, after, settle}
-use Rattle.bitmap.proofs.Levels.{words-level}
+use Rattle.words.specs.Sizes.{words, levelOf}
+use Rattle.bitmap.specs.Calls.{answer, after, settle}
+use Rattle.words.proofs.Levels.{words-level}
 use Rattle.bitmap.proofs.Refusals.{settle-no, settle-on}
 
 module _ (s : List ℕ) (k : ℕ) (is : (k ≡ levelOf (length s)) × (k ≤ 7)) where
@@ -45,10 +45,10 @@ module _ (s : List ℕ) (k : ℕ) (is : (k ≡ levelOf (length s)) × (k ≤ 7))
 
     -- a call that settles: a refusal leaves the words as lent, and a value is made into words
     module _ (f : ℕ → List ℕ → Said) (made : ℕ → List ℕ → ℕ → List ℕ) where
-      pub refused-at : (n : ℕ) → refused n ≡ f k s → (refused n ≡ answer f s) × (s ≡ after (λ k s. settle (f k s) s (made k s)) s)
+      refused-at : (n : ℕ) → refused n ≡ f k s → (refused n ≡ answer f s) × (s ≡ after (λ k s. settle (f k s) s (made k s)) s)
       refused-at n e = (e ∙ answer-at f, settle-no (f k s) n s (made k s) e ∙ after-at (λ k s. settle (f k s) s (made k s)))
 
-      pub given-at : (v : ℕ) (t : List ℕ) → given v ≡ f k s → t ≡ made k s v
+      given-at : (v : ℕ) (t : List ℕ) → given v ≡ f k s → t ≡ made k s v
           → (given v ≡ answer f s) × (t ≡ after (λ k s. settle (f k s) s (made k s)) s)
       given-at v t e h = (e ∙ answer-at f, h ∙ settle-on (f k s) v s (made k s) e ∙ after-at (λ k s. settle (f k s) s (made k s)))
 

@@ -1,8 +1,8 @@
--- What document 01 says of each case of each answer: its numbers and values. Definitions only.
+-- What documents 01 and 02 say of each case of each answer: its numbers and values. Definitions only.
 use Prim.Native.Nat.{ℕ}
 use mathlib.Core.Bool.{Bool, true, false}
 use Rattle.bitmap.specs.declared.answers.Refusal.{Refusal}
-use Rattle.bitmap.specs.declared.answers.Refusal.the-variants.{WordCount, PastEnd, NoSize, Alignment, NoneFree, AlreadyFree, Untrue, BadImage, TooShort, BadLine}
+use Rattle.bitmap.specs.declared.answers.Refusal.the-variants.{WordCount, PastEnd, NoSize, Alignment, NoneFree, AlreadyFree, Untrue, BadImage, TooShort, BadLine, NoAllowance, BookFull, NoLease, BadBook, NoHolder, BadRun, Overlap, BlockSize}
 use Rattle.bitmap.specs.declared.answers.Taken.{Taken}
 use Rattle.bitmap.specs.declared.answers.Taken.the-variants as T
 use Rattle.bitmap.specs.declared.answers.Changed.{Changed}
@@ -27,6 +27,14 @@ number Untrue = 7
 number BadImage = 8
 number TooShort = 9
 number BadLine = 10
+number NoAllowance = 11
+number BookFull = 12
+number NoLease = 13
+number BadBook = 14
+number NoHolder = 15
+number BadRun = 16
+number Overlap = 17
+number BlockSize = 18
 
 -- a take or a look-up gives a position
 abbrev pub taken : Taken → Said

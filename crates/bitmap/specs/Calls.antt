@@ -1,32 +1,26 @@
 -- What each public call says of a map and what it makes of the map's words, for every number; and the same of a lent store of any
 -- length, whose word count decides the level. Definitions only.
-use Prim.Native.Nat.{ℕ, _+_, _^_}
+use Prim.Native.Nat.{ℕ, _+_}
 use mathlib.Core.Bool.{Bool, cond, not, _||_}
 use mathlib.Core.List.{List}
 use lib.Dec.{eqb, leb, ltb}
 use lib.ListN.{length}
-use Rattle.bitmap.specs.declared.cascade.Change.{Change}
-use Rattle.bitmap.specs.declared.cascade.Change.the-variants.{Insert, Remove}
-use Rattle.bitmap.specs.declared.contiguous.Base.{Base}
-use Rattle.bitmap.specs.declared.contiguous.Base.the-variants.{Any, At}
-use Rattle.bitmap.specs.declared.contiguous.Way.{Way}
-use Rattle.bitmap.specs.declared.contiguous.Way.the-variants.{Whole, Old}
-use Rattle.bitmap.specs.Search.{firstFrom}
-use Rattle.bitmap.specs.Bits.{digit}
-use Rattle.bitmap.specs.Tree.{words, cap, own, leaf?, free?, true?}
-use Rattle.bitmap.specs.Change.{change}
-use Rattle.bitmap.specs.Take.{lowest}
-use Rattle.bitmap.specs.Run.{nextIn, aligned, run?, runIn}
-use Rattle.bitmap.specs.GiveBack.{firstLeaf, giveBack}
+use Rattle.words.specs.declared.kind.Change.{Change}
+use Rattle.words.specs.declared.kind.Change.the-variants.{Insert, Remove}
+use Rattle.words.specs.Bits.{digit}
+use Rattle.words.specs.Sizes.{cap, levelOf}
+use Rattle.words.specs.Tree.{own, leaf?, free?, true?}
+use Rattle.words.specs.Take.{lowest}
+use Rattle.words.specs.Run.{nextIn, misfit, aligned, run?, runIn}
+use Rattle.change.specs.Change.{change}
+use Rattle.change.specs.GiveBack.{firstLeaf, giveBack}
+use Rattle.bitmap.specs.declared.base.Base.{Base}
+use Rattle.bitmap.specs.declared.base.Base.the-variants.{Any, At}
 use Rattle.bitmap.specs.Answer.{Said, given, refused, refuse}
 
 -- ---- a lent store
 
--- the levels below the first word of a store of n words; 7 where n is none of the seven counts
-unfoldable pub levelOf : ℕ → ℕ
-levelOf n = firstFrom (λ k. eqb n (words k)) 0 7
-
--- what a call says of a store, where f says it of a map of k levels below its own word
+-- what a call says of a store, where f says it of a map of level k
 unfoldable pub answer : (ℕ → List ℕ → Said) → List ℕ → Said
 answer f s = refuse 1 (leb 7 (levelOf (length s))) (f (levelOf (length s)) s)
 
@@ -49,22 +43,20 @@ allocAfter k s = settle (allocSays k s) s (λ p. change Remove k s p (p + 1))
 
 -- ---- alloc_contiguous
 
--- 2^align is no alignment of a map of n positions
-abbrev pub misfit : ℕ → ℕ → Bool
-misfit n align = leb 64 align || ltb n (2 ^ align)
+-- 2^align is no alignment of n positions, or the given base is no multiple of it
+abbrev pub misplaced : Base → ℕ → ℕ → Bool
+misplaced Any align n = misfit n align
+misplaced (At b) align n = misfit n align || not (aligned align b)
+
+-- where a run is found that is not empty
+abbrev pub foundRun : Base → ℕ → ℕ → ℕ → List ℕ → Said
+foundRun Any size align k s =
+    refuse 5 (leb (cap k) (runIn (free? k s) (cap k) size align)) (given (runIn (free? k s) (cap k) size align))
+foundRun (At b) size align k s =
+    refuse 2 (ltb (cap k) (b + size)) (refuse 5 (not (run? (free? k s) (cap k) size align b)) (given b))
 
 abbrev pub runSays : Base → ℕ → ℕ → ℕ → List ℕ → Said
-runSays Any size align k s =
-    refuse 4 (misfit (cap k) align)
-    (refuse 3 (eqb size 0)
-    (refuse 5 (leb (cap k) (runIn (free? k s) (cap k) size align))
-    (given (runIn (free? k s) (cap k) size align))))
-runSays (At b) size align k s =
-    refuse 4 (misfit (cap k) align || not (aligned align b))
-    (refuse 3 (eqb size 0)
-    (refuse 2 (ltb (cap k) (b + size))
-    (refuse 5 (not (run? (free? k s) (cap k) size align b))
-    (given b))))
+runSays base size align k s = refuse 4 (misplaced base align (cap k)) (refuse 3 (eqb size 0) (foundRun base size align k s))
 
 abbrev pub runAfter : Base → ℕ → ℕ → ℕ → List ℕ → List ℕ
 runAfter base size align k s = settle (runSays base size align k s) s (λ b. change Remove k s b (b + size))
@@ -94,15 +86,23 @@ rangeSays a b k s = ranged a b k (given 0)
 abbrev pub rangeAfter : Change → ℕ → ℕ → ℕ → List ℕ → List ℕ
 rangeAfter c a b k s = settle (rangeSays a b k s) s (λ _. change c k s a b)
 
+abbrev pub insertAfter : ℕ → ℕ → ℕ → List ℕ → List ℕ
+insertAfter = rangeAfter Insert
+
+abbrev pub removeAfter : ℕ → ℕ → ℕ → List ℕ → List ℕ
+removeAfter = rangeAfter Remove
+
 -- ---- dealloc_contiguous and dealloc_contiguous_old
 
 abbrev pub giveRunSays : ℕ → ℕ → ℕ → List ℕ → Said
 giveRunSays base size k s =
     ranged base (base + size) k (refuse 6 (ltb (firstLeaf k s base (base + size)) (base + size)) (given 0))
 
-abbrev pub giveRunAfter : Way → ℕ → ℕ → ℕ → List ℕ → List ℕ
-giveRunAfter Whole base size k s = settle (giveRunSays base size k s) s (λ _. change Insert k s base (base + size))
-giveRunAfter Old base size k s = settle (rangeSays base (base + size) k s) s (λ _. giveBack k s base (base + size))
+abbrev pub giveRunAfter : ℕ → ℕ → ℕ → List ℕ → List ℕ
+giveRunAfter base size k s = settle (giveRunSays base size k s) s (λ _. change Insert k s base (base + size))
+
+abbrev pub giveRunOldAfter : ℕ → ℕ → ℕ → List ℕ → List ℕ
+giveRunOldAfter base size k s = settle (rangeSays base (base + size) k s) s (λ _. giveBack k s base (base + size))
 
 -- ---- is_empty, test and check
 

@@ -1,6 +1,6 @@
-// What the calls answer. specs/Answer.antt gives document 01's numbers and values for each case.
+// What the calls answer. specs/Answer.antt gives the documents' numbers and values for each case.
 
-// Why a call is refused, in the order of document 01's numbers 1 to 10.
+// Why a call is refused, in the order of the numbers: 1 to 10 are document 01's, 11 to 18 document 02's.
 pub enum Refusal {
     WordCount,
     PastEnd,
@@ -12,6 +12,14 @@ pub enum Refusal {
     BadImage,
     TooShort,
     BadLine,
+    NoAllowance,
+    BookFull,
+    NoLease,
+    BadBook,
+    NoHolder,
+    BadRun,
+    Overlap,
+    BlockSize,
 }
 
 // A take or a look-up: the position, or why there is none.

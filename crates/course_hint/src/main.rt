@@ -1,7 +1,6 @@
 // The second lesson, docs/course/2-summary-words.md: a map whose top word says that its first child has a free position, where
 // the child has none, beside a map on which the same word is true.
 use bitmap::BitAlloc256;
-use bitmap::Refusal;
 use bitmap::Taken;
 use bitmap::Told;
 use libc::STDOUT_FILENO;
@@ -64,24 +63,8 @@ fn answer(call: &[u8], t: Taken) {
         }
         Taken::No(r) => {
             io::write_all(STDOUT_FILENO, b": no ");
-            io::print_decimal(STDOUT_FILENO, number(r));
+            io::print_decimal(STDOUT_FILENO, bitmap::number(r) as u64);
         }
     }
     io::write_all(STDOUT_FILENO, b"\n");
-}
-
-// The number of a refusal.
-fn number(r: Refusal) -> u64 {
-    match r {
-        Refusal::WordCount => 1,
-        Refusal::PastEnd => 2,
-        Refusal::NoSize => 3,
-        Refusal::Alignment => 4,
-        Refusal::NoneFree => 5,
-        Refusal::AlreadyFree => 6,
-        Refusal::Untrue => 7,
-        Refusal::BadImage => 8,
-        Refusal::TooShort => 9,
-        Refusal::BadLine => 10,
-    }
 }

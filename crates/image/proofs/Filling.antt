@@ -8,12 +8,13 @@ use native.Mathlib.Decide.{decLt, ℕ-discrete}
 use native.Mathlib.Omega.{arith}
 use lib.ListN.{length, drop, set, getD, length-set, List·getD-append}
 use lib.Seq.{getD-set-same, getD-set-other, getD-append-add, getD-drop, ext-getD}
-use Rattle.bitmap.specs.Tree.{words}
+use Rattle.words.specs.Sizes.{words}
 use Rattle.image.specs.Bytes.{written}
-use Rattle.image.specs.Levels.{count, place}
+use Rattle.words.specs.Place.{count, place}
 use Rattle.image.specs.Reading.{mapFrom}
 use Rattle.image.proofs.Numbers.{length-written}
-use Rattle.image.proofs.Places.{place-lt, place-one, map-top, length-map, placed}
+use Rattle.words.proofs.Places.{place-lt}
+use Rattle.image.proofs.InDepth.{place-one, map-top, length-map, placed}
 
 -- the words f of all depths before d, and those of depth d before j, have been put into a map of level k; the target was t
 pub record Filled (f : ℕ → ℕ → ℕ) (k : ℕ) (t u : List ℕ) (d j : ℕ) : Type 0 where

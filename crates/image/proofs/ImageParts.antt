@@ -6,14 +6,16 @@ use native.Mathlib.Numerals.{add-one}
 use native.Mathlib.Omega.{arith}
 use lib.ListN.{length, take, getD, length-append}
 use lib.Seq.{length-take-le, take-length}
-use Rattle.bitmap.specs.Tree.{row}
+use Rattle.words.specs.Tree.{row}
 use Rattle.image.specs.Bytes.{bytesOf, numberOf, wordBytes, part, written}
-use Rattle.image.specs.Levels.{count, levelWords}
+use Rattle.words.specs.Place.{count}
+use Rattle.image.specs.Depths.{depthWords}
 use Rattle.image.specs.Image.{section, opening, image, start, imageLength}
 use Rattle.image.specs.Reading.{countIn, wordIn}
 use Rattle.image.proofs.Numbers.{length-bytes, length-words, words-more, written-none, written-more}
-use Rattle.image.proofs.Places.{length-level}
-use Rattle.image.proofs.Depths.{count-node, start-more, start-small}
+use Rattle.image.proofs.InDepth.{length-depth}
+use Rattle.words.proofs.Places.{count-node}
+use Rattle.image.proofs.Starts.{start-more, start-small}
 
 -- ---- the sections in their order
 
@@ -23,20 +25,20 @@ length-section ws = length-append (bytesOf 4 (length ws)) (wordBytes ws) ∙ ap�
 
 -- the image of a map s of level k up to the section of depth d
 unfoldable pub begun : ℕ → List ℕ → ℕ → List ℕ
-begun k s d = opening k ++ row (λ e. section (levelWords k e s)) d
+begun k s d = opening k ++ row (λ e. section (depthWords k e s)) d
 
 module _ (k : ℕ) (s : List ℕ) where
-  pub begun-more : (d : ℕ) → begun k s (suc d) ≡ begun k s d ++ section (levelWords k d s)
+  pub begun-more : (d : ℕ) → begun k s (suc d) ≡ begun k s d ++ section (depthWords k d s)
   unfolding begun row
-  begun-more d = sym (append-assoc (opening k) (row (λ e. section (levelWords k e s)) d) (section (levelWords k d s)))
+  begun-more d = sym (append-assoc (opening k) (row (λ e. section (depthWords k e s)) d) (section (depthWords k d s)))
 
   pub length-begun : (d : ℕ) → d ≤ suc k → length (begun k s d) ≡ start d
   unfolding begun row start opening
   length-begun zero h = refl
   length-begun (suc d) h =
       ap length (begun-more d)
-      ∙ length-append (begun k s d) (section (levelWords k d s))
-      ∙ ap₂ _+_ (length-begun d (omega arith)) (length-section (levelWords k d s) ∙ ap (λ (n : ℕ). 4 + 2 * n) (length-level k d s (omega arith)))
+      ∙ length-append (begun k s d) (section (depthWords k d s))
+      ∙ ap₂ _+_ (length-begun d (omega arith)) (length-section (depthWords k d s) ∙ ap (λ (n : ℕ). 4 + 2 * n) (length-depth k d s (omega arith)))
 
   pub length-image : length (image k s) ≡ imageLength k
   unfolding image begun
@@ -65,11 +67,11 @@ section-written a n j ws t u ej en eu h =
 
 -- one section more
 pub begun-written : (k : ℕ) (s t u : List ℕ) (d : ℕ) → d ≤ k → start d ≤ length t → u ≡ written 0 (begun k s d) t
-    → written (start d) (section (levelWords k d s)) u ≡ written 0 (begun k s (d + 1)) t
+    → written (start d) (section (depthWords k d s)) u ≡ written 0 (begun k s (d + 1)) t
 begun-written k s t u d l h e =
     let from : 0 + start d ≡ start d = omega arith in
-    ap₂ (λ (n : ℕ) (x : List ℕ). written n (section (levelWords k d s)) x) (sym from) e
-    ∙ written-more 0 (start d) (begun k s d) (section (levelWords k d s)) t (length-begun k s d (omega arith)) (omega arith)
+    ap₂ (λ (n : ℕ) (x : List ℕ). written n (section (depthWords k d s)) x) (sym from) e
+    ∙ written-more 0 (start d) (begun k s d) (section (depthWords k d s)) t (length-begun k s d (omega arith)) (omega arith)
     ∙ ap (λ (x : List ℕ). written 0 x t) (sym (ap (begun k s) (add-one d) ∙ begun-more k s d))
 
 -- all of them

@@ -1,9 +1,8 @@
 -- The laws that the functions' proofs cite, each file on those before it.
 pub mod Numbers
-pub mod Depths
-pub mod Places
-pub mod Climb
-pub mod LevelTruth
+pub mod Starts
+pub mod InDepth
+pub mod DepthTruth
 pub mod ImageParts
 pub mod Filling
 pub mod Refused

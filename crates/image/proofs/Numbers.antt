@@ -17,11 +17,11 @@ Bytes bs = (i : ℕ) → getD bs i 0 < 256
 
 -- ---- parts
 
-pub part-length : (a n : ℕ) (xs : List ℕ) → a + n ≤ length xs → length (part a n xs) ≡ n
+part-length : (a n : ℕ) (xs : List ℕ) → a + n ≤ length xs → length (part a n xs) ≡ n
 part-length a n xs h = simp (length-take, length-drop) (omega arith)
 
 -- a part of one element more
-pub part-cons : (a n : ℕ) (xs : List ℕ) → a < length xs → part a (suc n) xs ≡ getD xs a 0 ∷ part (suc a) n xs
+part-cons : (a n : ℕ) (xs : List ℕ) → a < length xs → part a (suc n) xs ≡ getD xs a 0 ∷ part (suc a) n xs
 part-cons a n xs h = ap (take (suc n)) (drop-cons xs a 0 h)
 
 -- a part in two
@@ -48,7 +48,7 @@ pub part-after : (m a n : ℕ) (xs ys : List ℕ) → length xs ≡ m → part (
 part-after m a n xs ys e = ap (take n) (sym (drop-drop a m (xs ++ ys)) ∙ ap (drop a) (drop-at xs ys m e))
 
 -- bytes stay bytes
-pub bytes-part : (a n : ℕ) (bs : List ℕ) → Bytes bs → Bytes (part a n bs)
+bytes-part : (a n : ℕ) (bs : List ℕ) → Bytes bs → Bytes (part a n bs)
 bytes-part a n bs f i = elim (decLt i n) [
   | yes l ↦ rw (getD-take n (drop a bs) i 0 l, getD-drop) (f (a + i))
   | no l ↦ let past = length-take n (drop a bs) in rw (List·getD-eq-default (part a n bs) 0 {n = i} (omega arith)) (omega arith)
@@ -68,7 +68,7 @@ number-bytes zero v h = omega arith
 number-bytes (suc n) v h = omega (arith, number-bytes n (v / 256) (omega arith))
 
 -- and the number of n bytes has those bytes
-pub bytes-number : (bs : List ℕ) → Bytes bs → bytesOf (length bs) (numberOf bs) ≡ bs
+bytes-number : (bs : List ℕ) → Bytes bs → bytesOf (length bs) (numberOf bs) ≡ bs
 unfolding bytesOf numberOf
 bytes-number [] f = refl
 bytes-number (b ∷ bs) f =
@@ -110,7 +110,7 @@ unfolding wordBytes
 length-words [] = refl
 length-words (w ∷ ws) = length-append (bytesOf 2 w) (wordBytes ws) ∙ ap₂ _+_ (length-bytes 2 w) (length-words ws) ∙ omega arith
 
-pub words-append : (vs ws : List ℕ) → wordBytes (vs ++ ws) ≡ wordBytes vs ++ wordBytes ws
+words-append : (vs ws : List ℕ) → wordBytes (vs ++ ws) ≡ wordBytes vs ++ wordBytes ws
 unfolding wordBytes
 words-append [] ws = refl
 words-append (v ∷ vs) ws = rw (words-append vs ws, append-assoc)

@@ -1,13 +1,10 @@
 -- One answer: two answers and two exits of a call that both meet its generated contract for the same arguments are equal.
 -- Assumes nothing.
-use mathlib.Core.Path.{_≡_, sym, ap, _∙_}
-use mathlib.Core.List.{List, []}
-use Prim.Native.Nat.{ℕ}
-use contract.Lifetimes.{Lfts}
-use denote.Triple.Clauses.{Lasts, atExit}
-use borrow.Fn.World.{ArgsD, ResD}
+use mathlib.Core.Path.{_≡_, sym, ap}
 use Rattle.bitmap.specs.Answer.{number}
+use Rattle.bitmap.specs.Once.{OneAnswer}
 use Rattle.bitmap.proofs.Numbered.{number-one, apart}
+use Rattle.bitmap.proofs.OneSaid.{once}
 use Rattle.image.specs.declared.answers.Wrote.{Wrote}
 use Rattle.image.specs.declared.answers.Wrote.the-variants as W
 use Rattle.image.specs.declared.answers.Got.{Got}
@@ -34,10 +31,8 @@ got-one (G.No r) (G.No q) e = ap G.No (number-one r q e)
 
 -- ---- each call
 
-pub write-once : (κs : Lfts 2) (a : ArgsD write.signature κs) (r₁ r₂ : ResD write.signature κs) (w₁ w₂ : Lasts write.ended κs a)
-    → write-reads.Post κs a r₁ (atExit write.ended κs a w₁) → write-reads.Post κs a r₂ (atExit write.ended κs a w₂) → (r₁ ≡ r₂) × (w₁ ≡ w₂)
-write-once κs a r₁ r₂ w₁ w₂ p q = (wrote-one r₁ r₂ (p .0 ∙ sym (q .0)), ap (λ (l : List ℕ). (tt, (l, tt))) (p .1 ∙ sym (q .1)))
+pub write-once : OneAnswer write.ended write-reads.Post
+write-once κs a r₁ r₂ w₁ w₂ p q = once wrote wrote-one (λ l. (w₁ .0, (l, w₁ .1 .1))) p q
 
-pub read-once : (κs : Lfts 2) (a : ArgsD read.signature κs) (r₁ r₂ : ResD read.signature κs) (w₁ w₂ : Lasts read.ended κs a)
-    → read-reads.Post κs a r₁ (atExit read.ended κs a w₁) → read-reads.Post κs a r₂ (atExit read.ended κs a w₂) → (r₁ ≡ r₂) × (w₁ ≡ w₂)
-read-once κs a r₁ r₂ w₁ w₂ p q = (got-one r₁ r₂ (p .0 ∙ sym (q .0)), ap (λ (l : List ℕ). (tt, (l, tt))) (p .1 ∙ sym (q .1)))
+pub read-once : OneAnswer read.ended read-reads.Post
+read-once κs a r₁ r₂ w₁ w₂ p q = once gotten got-one (λ l. (w₁ .0, (l, w₁ .1 .1))) p q

@@ -10,63 +10,66 @@ use native.Mathlib.Omega.{arith}
 use lib.ListN.{length, take, getD, List·getD-eq-default}
 use lib.Seq.{take-add, take-all, take-at, ext-getD}
 use borrow.Author.Tests.{eq-eqb, eqb-true}
-use Rattle.bitmap.specs.Tree.{words, row}
-use Rattle.bitmap.proofs.Search.{all-at, all-is}
-use Rattle.bitmap.proofs.Truth.{Fits}
+use Rattle.words.specs.Sizes.{words}
+use Rattle.words.specs.Tree.{row}
+use Rattle.words.proofs.Search.{all-at, all-is}
+use Rattle.words.proofs.Truth.{Fits}
 use Rattle.image.specs.Bytes.{bytesOf, numberOf, wordBytes, part}
-use Rattle.image.specs.Levels.{count, levelWords, place}
+use Rattle.words.specs.Place.{count, place}
+use Rattle.image.specs.Depths.{depthWords}
 use Rattle.image.specs.Image.{section, opening, image, start, imageLength}
 use Rattle.image.specs.Reading.{countIn, counted, wordIn, mapOf}
 use Rattle.image.proofs.Numbers.{Bytes, part-before, part-after, part-add, part-part, length-bytes, number-bytes, bytes-read, number-two, words-part, words-read}
-use Rattle.image.proofs.Depths.{count-small, start-more, start-le}
-use Rattle.image.proofs.Places.{length-level, level-at, length-map, map-top, placed}
+use Rattle.words.proofs.Places.{count-small}
+use Rattle.image.proofs.Starts.{start-more, start-le}
+use Rattle.image.proofs.InDepth.{length-depth, depth-at, length-map, map-top, placed}
 use Rattle.image.proofs.ImageParts.{length-section, begun, begun-more, length-begun}
 
 -- ---- what an image holds
 
 module _ (k : ℕ) (s : List ℕ) where
   -- a section stands at its place
-  begun-part : (n d : ℕ) → d < n → n ≤ suc k → part (start d) (4 + 2 * count d) (begun k s n) ≡ section (levelWords k d s)
+  begun-part : (n d : ℕ) → d < n → n ≤ suc k → part (start d) (4 + 2 * count d) (begun k s n) ≡ section (depthWords k d s)
   begun-part zero d l h = absurd (omega arith)
   begun-part (suc n) d l h =
       let len = length-begun k s n (omega arith) in
-      let size : length (section (levelWords k n s)) ≡ 4 + 2 * count n = length-section (levelWords k n s) ∙ ap (λ (m : ℕ). 4 + 2 * m) (length-level k n s (omega arith)) in
+      let size : length (section (depthWords k n s)) ≡ 4 + 2 * count n = length-section (depthWords k n s) ∙ ap (λ (m : ℕ). 4 + 2 * m) (length-depth k n s (omega arith)) in
       elim (decLt d n) [
         | yes lt ↦ ap (part (start d) (4 + 2 * count d)) (begun-more k s n)
-            ∙ part-before (start d) (4 + 2 * count d) (begun k s n) (section (levelWords k n s)) (omega (arith, len, start-more d, start-le (suc d) n lt))
+            ∙ part-before (start d) (4 + 2 * count d) (begun k s n) (section (depthWords k n s)) (omega (arith, len, start-more d, start-le (suc d) n lt))
             ∙ begun-part n d lt (omega arith)
         | no ge ↦ let last : d ≡ n = omega arith in
             rw last (ap (part (start n) (4 + 2 * count n)) (begun-more k s n)
-            ∙ ap (λ (m : ℕ). part m (4 + 2 * count n) (begun k s n ++ section (levelWords k n s))) (sym (add-zero (start n)))
-            ∙ part-after (start n) 0 (4 + 2 * count n) (begun k s n) (section (levelWords k n s)) len
-            ∙ take-all (4 + 2 * count n) (section (levelWords k n s)) (omega arith))
+            ∙ ap (λ (m : ℕ). part m (4 + 2 * count n) (begun k s n ++ section (depthWords k n s))) (sym (add-zero (start n)))
+            ∙ part-after (start n) 0 (4 + 2 * count n) (begun k s n) (section (depthWords k n s)) len
+            ∙ take-all (4 + 2 * count n) (section (depthWords k n s)) (omega arith))
       ]
 
   module _ (d : ℕ) (le : d ≤ k) where
-    section-part : part (start d) (4 + 2 * count d) (image k s) ≡ section (levelWords k d s)
+    section-part : part (start d) (4 + 2 * count d) (image k s) ≡ section (depthWords k d s)
     unfolding image begun
     section-part = begun-part (suc k) d (omega arith) (omega arith)
 
     -- a part of a section
-    inner : (a n : ℕ) → a + n ≤ 4 + 2 * count d → part (start d + a) n (image k s) ≡ part a n (section (levelWords k d s))
+    inner : (a n : ℕ) → a + n ≤ 4 + 2 * count d → part (start d + a) n (image k s) ≡ part a n (section (depthWords k d s))
     inner a n h = sym (part-part (start d) a n (4 + 2 * count d) (image k s) h) ∙ ap (part a n) section-part
 
-    pub count-image : d ≤ 6 → countIn (image k s) d ≡ count d
+    count-image : d ≤ 6 → countIn (image k s) d ≡ count d
     unfolding countIn section
     count-image small =
         ap (λ (n : ℕ). numberOf (part n 4 (image k s))) (sym (add-zero (start d)))
-        ∙ ap numberOf (inner 0 4 (omega arith) ∙ take-at (bytesOf 4 (length (levelWords k d s))) (wordBytes (levelWords k d s)) 4 (length-bytes 4 (length (levelWords k d s))))
-        ∙ number-bytes 4 (length (levelWords k d s)) (omega (arith, length-level k d s le, count-small d small))
-        ∙ length-level k d s le
+        ∙ ap numberOf (inner 0 4 (omega arith) ∙ take-at (bytesOf 4 (length (depthWords k d s))) (wordBytes (depthWords k d s)) 4 (length-bytes 4 (length (depthWords k d s))))
+        ∙ number-bytes 4 (length (depthWords k d s)) (omega (arith, length-depth k d s le, count-small d small))
+        ∙ length-depth k d s le
 
-    pub word-image : Fits s → (j : ℕ) → j < count d → wordIn (image k s) d j ≡ getD (levelWords k d s) j 0
+    word-image : Fits s → (j : ℕ) → j < count d → wordIn (image k s) d j ≡ getD (depthWords k d s) j 0
     unfolding wordIn section
     word-image f j l =
-        let ws = levelWords k d s in
-        let small : getD ws j 0 < 2 ^ 16 = rw (level-at (k - d) d k j s (omega arith) l) (f (place (k - d) d j)) in
+        let ws = depthWords k d s in
+        let small : getD ws j 0 < 2 ^ 16 = rw (depth-at (k - d) d k j s (omega arith) l) (f (place (k - d) d j)) in
         ap (λ (n : ℕ). numberOf (part n 2 (image k s))) (add-assoc (start d) 4 (2 * j))
         ∙ ap numberOf (inner (4 + 2 * j) 2 (omega arith) ∙ part-after 4 (2 * j) 2 (bytesOf 4 (length ws)) (wordBytes ws) (length-bytes 4 (length ws))
-        ∙ words-part ws j (omega (arith, length-level k d s le)))
+        ∙ words-part ws j (omega (arith, length-depth k d s le)))
         ∙ number-bytes 2 (getD ws j 0) (omega arith)
 
   -- it has its counts
@@ -82,23 +85,23 @@ module _ (k : ℕ) (s : List ℕ) where
       ap (λ (n : ℕ). getD (mapOf k (image k s)) n 0) (sym (q .is))
       ∙ map-top (wordIn (image k s)) (q .below) (q .depth) k (q .index) (q .levels) (q .index-lt)
       ∙ word-image (q .depth) (omega (arith, q .levels)) f (q .index) (q .index-lt)
-      ∙ level-at (q .below) (q .depth) k (q .index) s (q .levels) (q .index-lt)
+      ∙ depth-at (q .below) (q .depth) k (q .index) s (q .levels) (q .index-lt)
       ∙ ap (λ (n : ℕ). getD s n 0) (q .is))
 
 -- ---- the image of what bytes hold
 
 module _ (k : ℕ) (bytes : List ℕ) (len : length bytes ≡ imageLength k) (fits : Bytes bytes) where
   -- a map's words are those read from the sections
-  level-of-map : (d : ℕ) → d ≤ k → (j : ℕ) → j < count d → getD (levelWords k d (mapOf k bytes)) j 0 ≡ wordIn bytes d j
+  level-of-map : (d : ℕ) → d ≤ k → (j : ℕ) → j < count d → getD (depthWords k d (mapOf k bytes)) j 0 ≡ wordIn bytes d j
   unfolding mapOf
   level-of-map d le j l =
-      level-at (k - d) d k j (mapOf k bytes) (omega arith) l ∙ map-top (wordIn bytes) (k - d) d k j (omega arith) l
+      depth-at (k - d) d k j (mapOf k bytes) (omega arith) l ∙ map-top (wordIn bytes) (k - d) d k j (omega arith) l
 
-  section-of-map : (d : ℕ) → d ≤ k → countIn bytes d ≡ count d → section (levelWords k d (mapOf k bytes)) ≡ part (start d) (4 + 2 * count d) bytes
+  section-of-map : (d : ℕ) → d ≤ k → countIn bytes d ≡ count d → section (depthWords k d (mapOf k bytes)) ≡ part (start d) (4 + 2 * count d) bytes
   unfolding section countIn wordIn
   section-of-map d le e =
-      let ws = levelWords k d (mapOf k bytes) in
-      let n = length-level k d (mapOf k bytes) le in
+      let ws = depthWords k d (mapOf k bytes) in
+      let n = length-depth k d (mapOf k bytes) le in
       let ends : start d + (4 + 2 * count d) ≤ length bytes = omega (arith, len, start-more d, start-le (suc d) (suc k) (omega arith)) in
       ap₂ _++_
       (ap (bytesOf 4) (n ∙ sym e) ∙ bytes-read 4 (start d) bytes fits (omega arith))

@@ -2,7 +2,7 @@
 -- every image of a true map is accepted, what is accepted is the image of one map, and a refusal leaves the target as lent.
 -- Assumes nothing.
 use mathlib.Core.Path.{_≡_, refl, sym, ap, ap₂, _∙_}
-use mathlib.Core.Bool.{Bool, true, false, not, _||_, true≢false}
+use mathlib.Core.Bool.{true, not, _||_}
 use mathlib.Core.List.{List, [], _∷_}
 use Prim.Native.Nat.{ℕ, suc, _≤_, _<_}
 use native.Mathlib.Numerals.{add-one}
@@ -10,20 +10,23 @@ use native.Mathlib.Omega.{arith}
 use lib.Dec.{leb, ltb}
 use lib.ListN.{length, take}
 use borrow.Author.Tests.{leb-false, ltb-false, not-false}
-use Rattle.bitmap.specs.Tree.{words, true?}
+use Rattle.words.specs.Sizes.{words, levelOf}
+use Rattle.words.specs.Tree.{true?}
 use Rattle.bitmap.specs.Answer.{given, refused}
-use Rattle.bitmap.specs.Calls.{levelOf, answer}
-use Rattle.bitmap.proofs.Levels.{level-words, words-level}
-use Rattle.bitmap.proofs.Truth.{Fits}
+use Rattle.bitmap.specs.Calls.{answer}
+use Rattle.bitmap.specs.Maps.{TrueMap}
+use Rattle.words.proofs.Levels.{level-words, words-level}
+use Rattle.words.proofs.Tests.{none-of}
+use Rattle.words.proofs.Truth.{Fits}
 use Rattle.bitmap.proofs.Refusals.{given-on, settle-no, settle-on}
 use Rattle.image.specs.Bytes.{written}
-use Rattle.image.specs.Levels.{count}
+use Rattle.words.specs.Place.{count}
 use Rattle.image.specs.Image.{image, start, imageLength, imageLevel}
 use Rattle.image.specs.Reading.{wordIn, counted, mapOf}
 use Rattle.image.specs.Calls.{writeMap, writeSays, writeAfter, readSays, readAfter}
 use Rattle.image.proofs.Numbers.{Bytes, take-written}
-use Rattle.image.proofs.Depths.{level-length, length-level}
-use Rattle.image.proofs.Places.{length-map}
+use Rattle.image.proofs.Starts.{level-length, length-level}
+use Rattle.image.proofs.InDepth.{length-map}
 use Rattle.image.proofs.ImageParts.{length-image}
 use Rattle.image.proofs.RoundTrip.{counted-image, map-image, image-map, fits-map}
 use Rattle.image.proofs.Refused.{read-done, write-done}
@@ -43,19 +46,7 @@ write-refused s t n e = sym (settle-no (writeSays s t) n t (λ _. written 0 (ima
 pub read-refused : (bytes t : List ℕ) (n : ℕ) → readSays bytes t ≡ refused n → readAfter bytes t ≡ t
 read-refused bytes t n e = sym (settle-no (readSays bytes t) n t (λ _. written 0 (mapOf (imageLevel (length bytes)) bytes) t) (sym e))
 
--- ---- a map: k levels below its own word, as many words as that takes, each of 16 bits, and it is true
-
-pub record Map (k : ℕ) (s : List ℕ) : Type 0 where
-  pub level : k < 7
-  pub sized : length s ≡ words k
-  pub fits : Fits s
-  pub truth : true? k s ≡ true
-
 -- ---- what an answer that is no refusal tells
-
-neither-of : (a b : Bool) → (a || b) ≡ false → (a ≡ false) × (b ≡ false)
-neither-of true b h = absurd (true≢false h)
-neither-of false b h = (refl, h)
 
 given-one : {v w : ℕ} → given v ≡ given w → v ≡ w
 given-one e = cc
@@ -73,7 +64,7 @@ was-read : (bytes t : List ℕ) (n : ℕ) → readSays bytes t ≡ given n → W
 was-read bytes t n e =
     let k = imageLevel (length bytes) in
     let p = given-on n 8 (leb 7 k || not (counted k bytes)) _ (sym e) in
-    let q = neither-of (leb 7 k) (not (counted k bytes)) (p .0) in
+    let q = none-of (leb 7 k) (not (counted k bytes)) (p .0) in
     let r = given-on n 9 (ltb (length t) (words k)) _ (p .1) in
     let u = given-on n 7 (not (true? k (mapOf k bytes))) _ (r .1) in
     let level = leb-false 7 k (q .0) in
@@ -110,23 +101,24 @@ was-written s b n e =
       after = sym (settle-on (writeSays s b) n b (λ _. written 0 (image k s) b) (sym e));
     }
 
--- ---- the image of a map is accepted, and gives the map
+-- ---- the image of a true map is accepted, and gives the map
 
-pub image-read : (k : ℕ) (s t : List ℕ) → Map k s → length s ≤ length t
+pub image-read : (k : ℕ) (s t : List ℕ) → k < 7 → TrueMap k s → length s ≤ length t
     → (readSays (image k s) t ≡ given (suc k)) × (readAfter (image k s) t ≡ written 0 s t)
-image-read k s t m room =
+image-read k s t lt m room =
     let back = map-image k s (m .sized) (m .fits) in
-    let level = sym (ap imageLevel (length-image k s) ∙ level-length k (m .level)) in
-    let done = read-done (image k s) t k (level, omega (arith, m .level)) (omega (arith, m .level)) (counted-image k s (omega (arith, m .level)))
+    let level = sym (ap imageLevel (length-image k s) ∙ level-length k lt) in
+    let done = read-done (image k s) t k (level, omega arith) (omega arith) (counted-image k s (omega arith))
     (omega (arith, m .sized)) (ap (true? k) back ∙ m .truth) (ap (λ (x : List ℕ). written 0 x t) (sym back)) in
     (sym (ap given (sym (add-one k)) ∙ done .0), sym (done .1))
 
--- ---- what is accepted is the image of a map, and of no other
+-- ---- what is accepted is the image of a true map, and of no other
 
 pub record Accepted (bytes : List ℕ) (k : ℕ) (s : List ℕ) : Type 0 where
-  pub map : Map k s
+  pub level : k < 7
+  pub map : TrueMap k s
   pub is : image k s ≡ bytes
-  pub only : (k′ : ℕ) (s′ : List ℕ) → Map k′ s′ → image k′ s′ ≡ bytes → (k′ ≡ k) × (s′ ≡ s)
+  pub only : (k′ : ℕ) (s′ : List ℕ) → k′ < 7 → TrueMap k′ s′ → image k′ s′ ≡ bytes → (k′ ≡ k) × (s′ ≡ s)
 
 pub accepted : (bytes t : List ℕ) (n : ℕ) → Bytes bytes → readSays bytes t ≡ given n
     → Accepted bytes (imageLevel (length bytes)) (mapOf (imageLevel (length bytes)) bytes)
@@ -135,10 +127,11 @@ accepted bytes t n f e =
     let k = imageLevel (length bytes) in
     let w = was-read bytes t n e in
     record {
-      map = record { level = w .level; sized = length-map (wordIn bytes) k 0; fits = fits-map k bytes (w .sized) f; truth = w .truth };
+      level = w .level;
+      map = record { sized = length-map (wordIn bytes) k 0; fits = fits-map k bytes (w .sized) f; truth = w .truth };
       is = image-map k bytes (w .sized) f (w .counts);
-      only = λ k′ s′ m h.
-          let same : k′ ≡ k = sym (level-length k′ (m .level)) ∙ ap imageLevel (sym (length-image k′ s′) ∙ ap length h) in
+      only = λ k′ s′ lt m h.
+          let same : k′ ≡ k = sym (level-length k′ lt) ∙ ap imageLevel (sym (length-image k′ s′) ∙ ap length h) in
           (same, sym (map-image k′ s′ (m .sized) (m .fits)) ∙ ap₂ mapOf same h);
     }
 
@@ -150,7 +143,7 @@ write-read s b t n f e room =
     let k = levelOf (length s) in
     let w = was-written s b n e in
     let is : take n (writeAfter s b) ≡ image k s = ap (take n) (w .after) ∙ take-written n (image k s) b (length-image k s ∙ w .ends) in
-    let done = image-read k s t (record { level = w .level; sized = w .sized; fits = f; truth = w .truth }) room in
+    let done = image-read k s t (w .level) (record { sized = w .sized; fits = f; truth = w .truth }) room in
     (ap (λ (x : List ℕ). readSays x t) is ∙ done .0, ap (λ (x : List ℕ). readAfter x t) is ∙ done .1)
 
 -- ---- reading, and then writing what was read

@@ -4,16 +4,17 @@ use mathlib.Core.Bool.{not, _||_}
 use mathlib.Core.List.{List}
 use lib.Dec.{leb, ltb}
 use lib.ListN.{length}
-use Rattle.bitmap.specs.Tree.{words, true?}
+use Rattle.words.specs.Sizes.{words, levelOf}
+use Rattle.words.specs.Tree.{true?}
 use Rattle.bitmap.specs.Answer.{Said, given, refuse}
-use Rattle.bitmap.specs.Calls.{levelOf, answer, settle}
+use Rattle.bitmap.specs.Calls.{answer, settle}
 use Rattle.image.specs.Bytes.{written}
 use Rattle.image.specs.Image.{image, imageLength, imageLevel}
 use Rattle.image.specs.Reading.{counted, mapOf}
 
 -- ---- write
 
--- of a map with k levels below its own word, for a target t
+-- of a map of level k, for a target t
 abbrev pub writeMap : List ℕ → ℕ → List ℕ → Said
 writeMap t k s = refuse 7 (not (true? k s)) (refuse 9 (ltb (length t) (imageLength k)) (given (imageLength k)))
 
@@ -27,7 +28,7 @@ writeAfter s t = settle (writeSays s t) t (λ _. written 0 (image (levelOf (leng
 
 -- ---- read
 
--- of bytes that have the length of an image of a map with k levels below its own word, where k is below 7; for a target t
+-- of bytes that have the length of an image of a map of level k, where k is below 7; for a target t
 abbrev pub readMap : List ℕ → ℕ → List ℕ → Said
 readMap t k bytes =
     refuse 8 (leb 7 k || not (counted k bytes))

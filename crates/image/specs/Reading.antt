@@ -1,13 +1,13 @@
--- What bytes say, read as an image of a map with k levels below its own word. Definitions only.
+-- What bytes say, read as an image of a map of level k. Definitions only.
 use Prim.Native.Nat.{ℕ, zero, suc, _+_, _*_, _/_, _%_}
 use mathlib.Core.Bool.{Bool}
 use mathlib.Core.List.{List, [], _∷_}
 use lib.Dec.{eqb}
-use Rattle.bitmap.specs.Search.{all}
-use Rattle.bitmap.specs.Bits.{bit}
-use Rattle.bitmap.specs.Tree.{some, same, node}
+use Rattle.words.specs.Search.{all}
+use Rattle.words.specs.Bits.{bit, some}
+use Rattle.words.specs.Tree.{same, node}
 use Rattle.image.specs.Bytes.{numberOf, part}
-use Rattle.image.specs.Levels.{count}
+use Rattle.words.specs.Place.{count}
 use Rattle.image.specs.Image.{start}
 
 -- the word count of the section of depth d
@@ -22,7 +22,7 @@ counted k bytes = all (λ d. eqb (countIn bytes d) (count d)) 0 (suc k)
 unfoldable pub wordIn : List ℕ → ℕ → ℕ → ℕ
 wordIn bytes d j = numberOf (part (start d + 4 + 2 * j) 2 bytes)
 
--- the map with k levels below its own word, where f d j is word j of depth d counted from its own word's depth, at which it has the
+-- the map of level k, where f d j is word j of depth d counted from its own word's depth, at which it has the
 -- number j
 unfoldable pub mapFrom : (ℕ → ℕ → ℕ) → ℕ → ℕ → List ℕ
 mapFrom f zero j = f 0 j ∷ []
@@ -37,5 +37,5 @@ unfoldable pub wordTrue : (ℕ → ℕ → ℕ) → ℕ → ℕ → Bool
 wordTrue f d m = same (bit (f d (m / 16)) (m % 16)) (some (f (suc d) m))
 
 -- that is so of each word below the depth d
-unfoldable pub levelTrue : (ℕ → ℕ → ℕ) → ℕ → Bool
-levelTrue f d = all (wordTrue f d) 0 (count (suc d))
+unfoldable pub depthTrue : (ℕ → ℕ → ℕ) → ℕ → Bool
+depthTrue f d = all (wordTrue f d) 0 (count (suc d))

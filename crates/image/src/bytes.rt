@@ -2,7 +2,6 @@
 ghost use mathlib.Core.Path.{_≡_};
 ghost use Prim.Native.Nat.{_+_, _≤_, _<_};
 ghost use lib.ListN.{length};
-ghost use Rattle.bitmap.specs.Bits.{bit};
 ghost use Rattle.image.specs.Bytes.{bytesOf, numberOf, part, written};
 
 // A byte as a word.
@@ -44,12 +43,4 @@ pub fn put_count(target: &mut [u8], at: usize, n: usize)
 {
     put_word(target, at, (n % 65536) as u16);
     put_word(target, at + 2, (n / 65536) as u16);
-}
-
-// Whether bit i of the word w is set.
-pub fn test(w: u16, i: usize) -> bool
-    requires { ⌜ i < 16 ⌝ }
-    ensures { λ r. ⌜ r ≡ bit w i ⌝ }
-{
-    (w >> i) & 1 == 1
 }

@@ -13,13 +13,14 @@ mod sections;
 
 pub use answers::Got;
 pub use answers::Wrote;
+use words::sizes;
 
 // Writes the image of a true map to the first bytes of the target.
 pub fn write(store: &[u16], target: &mut [u8]) -> Wrote
     ensures { λ r. ⌜ wrote r ≡ writeSays (now (store .entry)) (now (target .entry)) ⌝ }
     ensures { λ _. ⌜ now (target .exit) ≡ writeAfter (now (store .entry)) (now (target .entry)) ⌝ }
 {
-    let k = layout::store_level(store.len());
+    let k = sizes::level_of(store.len());
     if k == 7 {
         return Wrote::No(Refusal::WordCount);
     }
@@ -47,7 +48,7 @@ pub fn read(bytes: &[u8], target: &mut [u16]) -> Got
     if !sections::counts_right(k, bytes) {
         return Got::No(Refusal::BadImage);
     }
-    if target.len() < layout::words_of(k) {
+    if target.len() < sizes::words_of(k) {
         return Got::No(Refusal::TooShort);
     }
     if !sections::map_true(k, bytes) {

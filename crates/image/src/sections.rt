@@ -2,24 +2,27 @@
 ghost use mathlib.Core.Path.{_≡_};
 ghost use Prim.Native.Nat.{suc, _≤_, _<_};
 ghost use lib.ListN.{length};
-ghost use Rattle.bitmap.specs.Tree.{words, true?};
+ghost use Rattle.words.specs.Sizes.{words};
+ghost use Rattle.words.specs.Tree.{true?};
 ghost use Rattle.image.specs.Bytes.{written};
-ghost use Rattle.image.specs.Levels.{levelWords};
+ghost use Rattle.image.specs.Depths.{depthWords};
 ghost use Rattle.image.specs.Image.{section, image, start, imageLength};
-ghost use Rattle.image.specs.Reading.{counted, wordIn, levelTrue, mapOf};
+ghost use Rattle.image.specs.Reading.{counted, wordIn, depthTrue, mapOf};
 use crate::bytes;
 use crate::layout;
+use words::place;
+use words::word;
 
 // Writes the section of depth d of a map of level k to its place in the image.
 pub fn write_section(k: usize, d: usize, s: &[u16], target: &mut [u8])
     requires { ⌜ (k ≤ 6) × (d ≤ k) × (length (now s) ≡ words k) × (start (suc d) ≤ length (now target)) ⌝ }
-    ensures { λ _. ⌜ now (target .exit) ≡ written (start d) (section (levelWords k d (now (s .entry)))) (now (target .entry)) ⌝ }
+    ensures { λ _. ⌜ now (target .exit) ≡ written (start d) (section (depthWords k d (now (s .entry)))) (now (target .entry)) ⌝ }
 {
     let n = layout::count_of(d);
     let from = layout::start_of(d);
     bytes::put_count(target, from, n);
     for j in 0..n {
-        let w = s[layout::place_of(k, d, j)];
+        let w = s[place::word_place(k, d, j)];
         bytes::put_word(target, from + 4 + 2 * j, w);
     }
 }
@@ -48,16 +51,16 @@ pub fn counts_right(k: usize, image: &[u8]) -> bool
 }
 
 // Whether each word below the depth d is not 0 exactly where its bit in the word above it is set.
-pub fn level_true(d: usize, image: &[u8]) -> bool
+pub fn depth_true(d: usize, image: &[u8]) -> bool
     requires { ⌜ (d < 6) × (start (suc (suc d)) ≤ length (now image)) ⌝ }
-    ensures { λ r. ⌜ r ≡ levelTrue (wordIn (now (image .entry))) d ⌝ }
+    ensures { λ r. ⌜ r ≡ depthTrue (wordIn (now (image .entry))) d ⌝ }
 {
     let above = layout::start_of(d) + 4;
     let below = layout::start_of(d + 1) + 4;
     for m in 0..layout::count_of(d + 1) {
         let w = bytes::word_at(image, above + 2 * (m / 16));
         let v = bytes::word_at(image, below + 2 * m);
-        if bytes::test(w, m % 16) != (v != 0) {
+        if word::test(w, m % 16) != (v != 0) {
             return false;
         }
     }
@@ -70,7 +73,7 @@ pub fn map_true(k: usize, image: &[u8]) -> bool
     ensures { λ r. ⌜ r ≡ true? k (mapOf k (now (image .entry))) ⌝ }
 {
     for d in 0..k {
-        if !level_true(d, image) {
+        if !depth_true(d, image) {
             return false;
         }
     }
@@ -85,7 +88,7 @@ pub fn read_all(k: usize, image: &[u8], target: &mut [u16])
     for d in 0..k + 1 {
         let from = layout::start_of(d) + 4;
         for j in 0..layout::count_of(d) {
-            target[layout::place_of(k, d, j)] = bytes::word_at(image, from + 2 * j);
+            target[place::word_place(k, d, j)] = bytes::word_at(image, from + 2 * j);
         }
     }
 }

@@ -29,22 +29,10 @@ pub fn sameness(same: bool) {
     }
 }
 
-// A refusal, by its number in document 01.
+// A refusal, by its number.
 fn refusal(r: Refusal) {
-    let n = match r {
-        Refusal::WordCount => 1,
-        Refusal::PastEnd => 2,
-        Refusal::NoSize => 3,
-        Refusal::Alignment => 4,
-        Refusal::NoneFree => 5,
-        Refusal::AlreadyFree => 6,
-        Refusal::Untrue => 7,
-        Refusal::BadImage => 8,
-        Refusal::TooShort => 9,
-        Refusal::BadLine => 10,
-    };
     text(b" no");
-    number(n);
+    number(bitmap::number(r));
 }
 
 pub fn wrote(w: Wrote) {

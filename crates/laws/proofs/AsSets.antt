@@ -1,6 +1,6 @@
 -- Demand 2: on a true map each call is the one on the plain set of its free positions, and leaves a true map. Assumes nothing.
 use mathlib.Core.Path.{_≡_, refl, sym, ap, ap₂, _∙_}
-use mathlib.Core.Bool.{Bool, true, false, cond, not, _&&_, _||_, true≢false}
+use mathlib.Core.Bool.{Bool, true, false, cond, not, _&&_, _||_}
 use mathlib.Core.Logic.{⊎-elim}
 use mathlib.Core.List.{List}
 use Prim.Native.Nat.{ℕ, _+_, _-_, _≤_, _<_}
@@ -10,30 +10,32 @@ use native.Mathlib.Omega.{arith}
 use lib.Dec.{eqb, leb, ltb}
 use lib.ListN.{length}
 use borrow.Author.Tests.{eq-eqb, ne-eqb, lt-ltb, le-ltb, le-leb, lt-leb, ltb-false, leb-false}
-use Rattle.bitmap.specs.declared.cascade.Change.{Change}
-use Rattle.bitmap.specs.declared.cascade.Change.the-variants.{Insert, Remove}
-use Rattle.bitmap.specs.declared.contiguous.Base.{Base}
-use Rattle.bitmap.specs.declared.contiguous.Base.the-variants.{Any, At}
-use Rattle.bitmap.specs.Search.{firstFrom}
-use Rattle.bitmap.specs.Bits.{digit, within}
-use Rattle.bitmap.specs.Tree.{cap, own, leaf?, free?, true?}
-use Rattle.bitmap.specs.Change.{change}
-use Rattle.bitmap.specs.GiveBack.{firstLeaf, giveBack}
+use Rattle.words.specs.declared.kind.Change.{Change}
+use Rattle.words.specs.declared.kind.Change.the-variants.{Insert, Remove}
+use Rattle.bitmap.specs.declared.base.Base.{Base}
+use Rattle.bitmap.specs.declared.base.Base.the-variants.{Any, At}
+use Rattle.words.specs.Search.{firstFrom}
+use Rattle.words.specs.Bits.{digit, within}
+use Rattle.words.specs.Sizes.{cap, levelOf}
+use Rattle.words.specs.Tree.{own, leaf?, free?, true?}
+use Rattle.change.specs.Change.{change}
+use Rattle.change.specs.GiveBack.{firstLeaf, giveBack}
 use Rattle.bitmap.specs.Answer.{Said, given, refused, refuse}
-use Rattle.bitmap.specs.Calls.{levelOf, answer, after, settle, allocSays, runSays, giveSays, giveRunSays, rangeSays}
-use Rattle.bitmap.proofs.Search.{sort, first-is}
-use Rattle.bitmap.proofs.Levels.{words-level}
+use Rattle.bitmap.specs.Calls.{answer, after, settle, allocSays, runSays, giveSays, giveRunSays, rangeSays}
+use Rattle.words.proofs.Tests.{sort, none-of}
+use Rattle.words.proofs.Search.{first-is}
+use Rattle.words.proofs.Levels.{words-level}
 use Rattle.bitmap.proofs.Refusals.{given-on}
-use Rattle.bitmap.proofs.Truth.{free-leaf}
-use Rattle.bitmap.proofs.Changes.{length-change}
-use Rattle.bitmap.proofs.Effects.{free-change, true-change, fits-change}
-use Rattle.bitmap.proofs.LowestFree.{firstFree, free-none, free-some, alloc-true}
-use Rattle.bitmap.proofs.GiveBacks.{length-giveBack}
-use Rattle.bitmap.proofs.FreedRun.{freedTo, first-free, free-giveBack, true-giveBack, fits-giveBack}
+use Rattle.words.proofs.Truth.{Fits, free-leaf}
+use Rattle.change.proofs.Changes.{length-change}
+use Rattle.laws.proofs.Effects.{free-change, true-change, fits-change}
+use Rattle.look.proofs.LowestFree.{firstFree, free-none, free-some, lowest-free}
+use Rattle.change.proofs.GiveBacks.{length-giveBack}
+use Rattle.laws.proofs.FreedRun.{freedTo, first-free, free-giveBack, true-giveBack, fits-giveBack}
 use Rattle.bitmap.proofs.Stores.{answer-at, after-at}
 use Rattle.laws.specs.Call.{Call, alloc, allocContiguous, next, dealloc, deallocContiguous, deallocContiguousOld, insert, remove, isEmpty, test, check, callSays, callAfter}
 use Rattle.laws.specs.Sets.{Positions, with, without, range, found, lowestFrom, runGiven, freedUpTo, setSays, setAfter, settled}
-use Rattle.laws.specs.Maps.{TrueMap, TrueStore, freeIn, positions}
+use Rattle.bitmap.specs.Maps.{TrueMap, TrueStore, freeIn, positions}
 
 -- the call c on the map s of k levels below its own word is the call on F
 pub record AsSet (c : Call) (k : ℕ) (s : List ℕ) : Type 0 where
@@ -51,12 +53,8 @@ past : (n p : ℕ) (x y : Said) → (p < n → x ≡ y) → refuse 2 (leb n p) x
 past n p x y h = ⊎-elim (λ t. rw t) (λ t. rw t (h (leb-false n p t))) (sort (leb n p))
 
 -- of a range in the map
-neither-is : (x y : Bool) → (x || y) ≡ false → (x ≡ false) × (y ≡ false)
-neither-is true y e = absurd (true≢false e)
-neither-is false y e = (refl, e)
-
 in-map : (n a b : ℕ) → (ltb b a || ltb n b) ≡ false → (a ≤ b) × (b ≤ n)
-in-map n a b e = let r = neither-is (ltb b a) (ltb n b) e in (ltb-false b a (r .0), ltb-false n b (r .1))
+in-map n a b e = let r = none-of (ltb b a) (ltb n b) e in (ltb-false b a (r .0), ltb-false n b (r .1))
 
 in-range : (n a b : ℕ) (x y : Said) → (a ≤ b → b ≤ n → x ≡ y) → range n a b x ≡ range n a b y
 in-range n a b x y h = ⊎-elim (λ t. rw t) (λ t. let r = in-map n a b t in rw (t, h (r .0) (r .1))) (sort (ltb b a || ltb n b))
@@ -80,6 +78,14 @@ freed-up : (a b p : ℕ) → p ≤ b → freedTo a b p ≡ freedUpTo a b p
 freed-up a b p l = elim (ℕ-discrete p b) [
   | yes e ↦ rw (eq-eqb p b e, le-ltb p b (omega arith))
   | no ne ↦ rw (ne-eqb p b ne, lt-ltb p b (omega arith))
+]
+
+-- ---- a take of a true map says its lowest free position, or refusal 5 where there is none, and never refusal 7
+
+alloc-true : (k : ℕ) (s : List ℕ) → true? k s ≡ true → Fits s → allocSays k s ≡ refuse 5 (leb (cap k) (firstFree k s)) (given (firstFree k s))
+alloc-true k s h f = elim (ℕ-discrete (own s) 0) [
+  | yes z ↦ rw (eq-eqb (own s) 0 z, free-none k s h z, le-leb (cap k) (cap k) (omega arith))
+  | no ne ↦ rw (ne-eqb (own s) 0 ne, lowest-free k s h f, lt-leb (cap k) (firstFree k s) (free-some k s h f ne))
 ]
 
 -- ---- each call on a true map

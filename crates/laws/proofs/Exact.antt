@@ -10,22 +10,23 @@ use native.Mathlib.Omega.{arith}
 use lib.Dec.{eqb, leb, ltb}
 use lib.ListN.{length}
 use borrow.Author.Tests.{eq-eqb, ne-eqb, eqb-true, leb-false}
-use Rattle.bitmap.specs.declared.contiguous.Base.the-variants.{Any, At}
-use Rattle.bitmap.specs.Search.{firstFrom}
-use Rattle.bitmap.specs.Bits.{bit, digit}
-use Rattle.bitmap.specs.Tree.{cap, own, child, some, leaf?, free?, true?}
-use Rattle.bitmap.specs.Run.{aligned, run?, runIn}
+use Rattle.bitmap.specs.declared.base.Base.the-variants.{Any, At}
+use Rattle.words.specs.Search.{firstFrom}
+use Rattle.words.specs.Bits.{bit, digit, some}
+use Rattle.words.specs.Sizes.{cap, levelOf}
+use Rattle.words.specs.Tree.{own, child, leaf?, free?, true?}
+use Rattle.words.specs.Run.{aligned, run?, runIn, misfit}
 use Rattle.bitmap.specs.Answer.{Said, given, refused, refuse}
-use Rattle.bitmap.specs.Calls.{levelOf, answer, misfit, emptySays, checkSays}
-use Rattle.bitmap.proofs.Search.{sort}
+use Rattle.bitmap.specs.Calls.{answer, emptySays, checkSays}
+use Rattle.words.proofs.Tests.{sort}
 use Rattle.bitmap.proofs.Refusals.{given-on}
-use Rattle.bitmap.proofs.Truth.{some-no, true-is, is-true, live, own-none, free-leaf}
-use Rattle.bitmap.proofs.OneMap.{one-free}
+use Rattle.words.proofs.Truth.{some-no, true-is, is-true, live, own-none, free-leaf}
+use Rattle.laws.proofs.OneMap.{one-free}
 use Rattle.laws.specs.Call.{Call, alloc, allocContiguous, next, dealloc, deallocContiguous, deallocContiguousOld, insert, remove, isEmpty, test, check, callSays}
 use Rattle.laws.specs.Sets.{Positions, found, lowestFrom, range, runGiven, setSays}
-use Rattle.laws.specs.Maps.{Truthful, TrueMap, TrueStore, freeIn, positions}
+use Rattle.bitmap.specs.Maps.{Truthful, TrueMap, TrueStore, freeIn, positions}
 use Rattle.laws.proofs.AsSets.{as-set, map-of, answer-level, store-as-set}
-use Rattle.laws.proofs.RunsExist.{unlike}
+use Rattle.bitmap.proofs.Numbered.{apart}
 
 -- In a true map F is the set of leaf bits.
 pub free-is-leaf : (k : ℕ) (s : List ℕ) → TrueMap k s → (p : ℕ) → p < cap k → free? k s p ≡ leaf? k s p
@@ -110,7 +111,7 @@ on-seven n true rest ne h e = ne (cc)
 on-seven n false rest ne h e = h e
 
 found-seven : (n p : ℕ) → found n p ≡ refused 7 → ⊥
-found-seven n p = on-seven 5 (leb n p) (given p) (omega arith) (unlike p 7)
+found-seven n p = on-seven 5 (leb n p) (given p) (omega arith) (apart p 7)
 
 range-seven : (n a b : ℕ) (rest : Said) → (rest ≡ refused 7 → ⊥) → range n a b rest ≡ refused 7 → ⊥
 range-seven n a b rest h =
@@ -119,7 +120,7 @@ range-seven n a b rest h =
 given-seven : (f : Positions) (n base size : ℕ) → runGiven f n base size ≡ refused 7 → ⊥
 given-seven f n base size =
     let met = ltb (firstFrom f base size) (base + size) in
-    range-seven n base (base + size) (refuse 6 met (given 0)) (on-seven 6 met (given 0) (omega arith) (unlike 0 7))
+    range-seven n base (base + size) (refuse 6 met (given 0)) (on-seven 6 met (given 0) (omega arith) (apart 0 7))
 
 -- no call on a set is refused with 7
 set-seven : (c : Call) (f : Positions) (n : ℕ) → setSays c f n ≡ refused 7 → ⊥
@@ -134,17 +135,17 @@ set-seven (allocContiguous (At b) size align) f n =
     on-seven 4 (misfit n align || not (aligned align b)) (refuse 3 (eqb size 0) inside) (omega arith)
     (on-seven 3 (eqb size 0) inside (omega arith)
     (on-seven 2 (ltb n (b + size)) here (omega arith)
-    (on-seven 5 (not (run? f n size align b)) (given b) (omega arith) (unlike b 7))))
+    (on-seven 5 (not (run? f n size align b)) (given b) (omega arith) (apart b 7))))
 set-seven (next key) f n = found-seven n (lowestFrom f n key)
 set-seven (dealloc key) f n =
-    on-seven 2 (leb n key) (refuse 6 (f key) (given 0)) (omega arith) (on-seven 6 (f key) (given 0) (omega arith) (unlike 0 7))
+    on-seven 2 (leb n key) (refuse 6 (f key) (given 0)) (omega arith) (on-seven 6 (f key) (given 0) (omega arith) (apart 0 7))
 set-seven (deallocContiguous base size) f n = given-seven f n base size
 set-seven (deallocContiguousOld base size) f n = given-seven f n base size
-set-seven (insert a b) f n = range-seven n a b (given 0) (unlike 0 7)
-set-seven (remove a b) f n = range-seven n a b (given 0) (unlike 0 7)
-set-seven isEmpty f n = unlike (digit (leb n (lowestFrom f n 0))) 7
-set-seven (test key) f n = on-seven 2 (leb n key) (given (digit (f key))) (omega arith) (unlike (digit (f key)) 7)
-set-seven check f n = unlike 1 7
+set-seven (insert a b) f n = range-seven n a b (given 0) (apart 0 7)
+set-seven (remove a b) f n = range-seven n a b (given 0) (apart 0 7)
+set-seven isEmpty f n = apart (digit (leb n (lowestFrom f n 0))) 7
+set-seven (test key) f n = on-seven 2 (leb n key) (given (digit (f key))) (omega arith) (apart (digit (f key)) 7)
+set-seven check f n = apart 1 7
 
 -- No call on a true map is refused with 7.
 pub never-untrue : (c : Call) (k : ℕ) (s : List ℕ) → TrueMap k s → callSays c k s ≡ refused 7 → ⊥

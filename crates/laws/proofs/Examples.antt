@@ -4,15 +4,17 @@ use mathlib.Core.Path.{_≡_, refl}
 use mathlib.Core.List.{List, [], _∷_, _++_}
 use Prim.Native.Nat.{ℕ}
 use lib.ListN.{replicate}
-use Rattle.bitmap.specs.declared.contiguous.Base.the-variants.{Any, At}
+use Rattle.bitmap.specs.declared.base.Base.the-variants.{Any, At}
 use Rattle.bitmap.specs.Answer.{Said, given, refused}
-use Rattle.bitmap.specs.Search.{firstFrom, all}
-use Rattle.bitmap.specs.Bits.{bit, pack}
-use Rattle.bitmap.specs.Tree.{words, cap, child, row, node, replaced, marked, renew, leaf?, free?}
-use Rattle.bitmap.specs.Change.{low, high, change}
-use Rattle.bitmap.specs.Take.{lowest}
-use Rattle.bitmap.specs.GiveBack.{giveBack}
-use Rattle.bitmap.specs.Calls.{levelOf, answer, after}
+use Rattle.words.specs.Search.{firstFrom, all}
+use Rattle.words.specs.Bits.{bit, pack}
+use Rattle.words.specs.Sizes.{words, cap, levelOf}
+use Rattle.words.specs.Tree.{child, row, node, leaf?, free?}
+use Rattle.change.specs.Renew.{replaced, marked, renew}
+use Rattle.change.specs.Change.{low, high, change}
+use Rattle.words.specs.Take.{lowest}
+use Rattle.change.specs.GiveBack.{giveBack}
+use Rattle.bitmap.specs.Calls.{answer, after}
 use Rattle.laws.specs.Call.{Call, alloc, allocContiguous, next, dealloc, deallocContiguous, deallocContiguousOld, insert, remove, callSays, callAfter}
 
 infix 60 _says_leaves_

@@ -7,10 +7,10 @@ use native.Mathlib.Omega.{arith}
 use lib.Dec.{eqb, leb, ltb}
 use lib.ListN.{length}
 use borrow.Author.Tests.{eq-eqb}
-use Rattle.bitmap.specs.Tree.{cap}
-use Rattle.bitmap.specs.GiveBack.{firstLeaf, giveBack}
+use Rattle.words.specs.Sizes.{cap, levelOf}
+use Rattle.change.specs.GiveBack.{firstLeaf, giveBack}
 use Rattle.bitmap.specs.Answer.{Said, given, refused, refuse}
-use Rattle.bitmap.specs.Calls.{levelOf, answer, after, settle, ranged, rangeSays}
+use Rattle.bitmap.specs.Calls.{answer, after, settle, ranged, rangeSays}
 use Rattle.bitmap.proofs.Refusals.{settle-no}
 use Rattle.laws.specs.Call.{Call, alloc, allocContiguous, next, dealloc, deallocContiguous, deallocContiguousOld, insert, remove, isEmpty, test, check, callSays, callAfter, partly}
 

@@ -4,13 +4,14 @@ use mathlib.Core.List.{List, [], _∷_}
 use Prim.Native.Nat.{ℕ, _≤_, _<_}
 use native.Mathlib.Omega.{arith}
 use lib.ListN.{length}
-use Rattle.bitmap.specs.declared.contiguous.Base.{Base}
-use Rattle.bitmap.specs.Tree.{cap, free?}
-use Rattle.bitmap.specs.Calls.{levelOf, answer, after}
-use Rattle.bitmap.proofs.Levels.{level-at}
+use Rattle.bitmap.specs.declared.base.Base.{Base}
+use Rattle.words.specs.Sizes.{cap, levelOf}
+use Rattle.words.specs.Tree.{free?}
+use Rattle.bitmap.specs.Calls.{answer, after}
+use Rattle.words.proofs.Levels.{level-at}
 use Rattle.bitmap.proofs.Stores.{answer-at, after-at}
 use Rattle.laws.specs.Call.{Call, allocContiguous, callSays, callAfter}
-use Rattle.laws.specs.Maps.{TrueMap, TrueStore}
+use Rattle.bitmap.specs.Maps.{TrueMap, TrueStore}
 use Rattle.laws.specs.Order.{Op, call, mapSays, mapAfter, storeSays, storeAfter, NoHigher, Rule, Rules, none, place, Ordered, RunInOrder, StoresOrdered, StoresInOrder}
 use Rattle.laws.proofs.AsSets.{as-set, map-of}
 use Rattle.laws.proofs.SetOrder.{says-order, run-order, after-inside}

@@ -1,8 +1,8 @@
 -- An aligned run is refused with 5 exactly when none stands in F; otherwise the lowest is taken, or the one at the base. These hold of
--- every map, true or not. `Run f n size align b` of the map's law file Runs says that a run stands at b: b is a multiple of 2^align,
+-- every map, true or not. `Run f n size align b` of the law file Runs says that a run stands at b: b is a multiple of 2^align,
 -- b + size is at most n, and each of b to b + size - 1 is in f. Assumes nothing.
 use mathlib.Core.Path.{_≡_, refl, sym, ap, _∙_}
-use mathlib.Core.Bool.{false, true≢false}
+use mathlib.Core.Bool.{false, not, true≢false}
 use mathlib.Core.Logic.{_↔_, _⊎_, inl, inr, ⊎-elim}
 use mathlib.Core.List.{List}
 use Prim.Native.Nat.{ℕ, _+_, _%_, _^_, _≤_, _<_}
@@ -11,25 +11,24 @@ use native.Mathlib.Omega.{arith}
 use lib.Dec.{leb, ltb}
 use lib.ListN.{length}
 use borrow.Author.Tests.{eq-eqb, lt-leb, le-ltb}
-use Rattle.bitmap.specs.declared.cascade.Change.the-variants.{Remove}
-use Rattle.bitmap.specs.declared.contiguous.Base.{Base}
-use Rattle.bitmap.specs.declared.contiguous.Base.the-variants.{Any, At}
-use Rattle.bitmap.specs.Tree.{cap, free?}
-use Rattle.bitmap.specs.Change.{change}
-use Rattle.bitmap.specs.Run.{run?, runIn}
+use Rattle.words.specs.declared.kind.Change.the-variants.{Remove}
+use Rattle.bitmap.specs.declared.base.Base.{Base}
+use Rattle.bitmap.specs.declared.base.Base.the-variants.{Any, At}
+use Rattle.words.specs.Sizes.{cap, levelOf}
+use Rattle.words.specs.Tree.{free?}
+use Rattle.change.specs.Change.{change}
+use Rattle.words.specs.Run.{misfit, aligned, run?, runIn}
 use Rattle.bitmap.specs.Answer.{given, refused}
-use Rattle.bitmap.specs.Calls.{levelOf, answer, after, misfit, runSays, runAfter}
-use Rattle.bitmap.proofs.Search.{sort, first-is}
-use Rattle.bitmap.proofs.Refusals.{neither, settle-on}
-use Rattle.bitmap.proofs.Runs.{Run, run-is, is-run, run-found, run-none}
-use Rattle.bitmap.proofs.RunCases.{any-none, any-found, at-held, at-found}
+use Rattle.bitmap.specs.Calls.{answer, after, misplaced, runSays, runAfter}
+use Rattle.words.proofs.Tests.{sort, neither}
+use Rattle.words.proofs.Search.{first-is}
+use Rattle.bitmap.proofs.Refusals.{settle-on}
+use Rattle.bitmap.proofs.Numbered.{apart}
+use Rattle.look.proofs.Runs.{Run, run-is, is-run, run-found, run-none}
+use Rattle.bitmap.proofs.RunCases.{run-some, any-none, any-found, at-held, at-found}
 use Rattle.laws.specs.Call.{allocContiguous, callSays, callAfter}
-use Rattle.laws.specs.Maps.{freeIn, positions}
+use Rattle.bitmap.specs.Maps.{freeIn, positions}
 use Rattle.laws.proofs.AsSets.{answer-level, after-level}
-
--- a value is no refusal
-pub unlike : (v m : ℕ) → given v ≡ refused m → ⊥
-unlike v m e = let z : _≡_ {A = ℕ} 0 1 = cc in omega arith
 
 -- arguments that are not refused with 4
 fits : (n align : ℕ) → align < 64 → 2 ^ align ≤ n → misfit n align ≡ false
@@ -49,10 +48,10 @@ run-or-none k s size align a l some =
     let r = runIn f n size align in
     let ok = fits n align a l in
     ⊎-elim
-    (λ (e : r ≡ n). inl (sym (any-none size align k s ok (omega arith) e), run-none f n size align some (omega arith)))
+    (λ (e : r ≡ n). inl (sym (run-some Any size align k s ok (omega arith) (any-none size align k s (omega arith))), run-none f n size align some (omega arith)))
     (λ (m : r < n).
     let t = run-found f n size align r refl m in
-    inr (r, sym (any-found size align k s ok (omega arith) r refl m), t .0, t .1))
+    inr (r, sym (run-some Any size align k s ok (omega arith) (any-found size align k s r refl m)), t .0, t .1))
     (eq-or-lt-of-le (first-is (run? f n size align) 0 n n (zero-add n) .upto))
 
 -- Without a base, not refused with 4 or 3: the answer is refusal 5 exactly when there is no b at which the run stands.
@@ -60,7 +59,7 @@ pub run-refused : (k : ℕ) (s : List ℕ) (size align : ℕ) → align < 64 →
     → (runSays Any size align k s ≡ refused 5) ↔ ((b : ℕ) → Run (free? k s) (cap k) size align b → ⊥)
 run-refused k s size align a l some =
     let either = run-or-none k s size align a l some in (
-      λ h. ⊎-elim (λ c. c .1) (λ c. absurd (unlike (c .0) 5 (sym (c .1) ∙ h))) either,
+      λ h. ⊎-elim (λ c. c .1) (λ c. absurd (apart (c .0) 5 (sym (c .1) ∙ h))) either,
       λ none. ⊎-elim (λ c. c .0) (λ c. absurd (none (c .0) (c .2))) either,
     )
 
@@ -71,7 +70,7 @@ pub run-given : (k : ℕ) (s : List ℕ) (size align : ℕ) → align < 64 → 2
 run-given k s size align a l some b =
     let either = run-or-none k s size align a l some in (
       λ h. ⊎-elim
-          (λ c. absurd (unlike b 5 (sym h ∙ c .0)))
+          (λ c. absurd (apart b 5 (sym h ∙ c .0)))
           (λ c. let e : c .0 ≡ b = cc (c .1) in rw (← e) (c .2, c .3))
           either,
       λ t. ⊎-elim
@@ -93,11 +92,10 @@ pub base-or-none : (k : ℕ) (s : List ℕ) (size align b : ℕ)
 base-or-none k s size align b a l m some u =
     let f = free? k s in
     let n = cap k in
-    let ok = fits n align a l in
-    let multiple = eq-eqb (b % 2 ^ align) 0 m in
+    let ok : misplaced (At b) align n ≡ false = neither (misfit n align) (not (aligned align b)) (fits n align a l) (ap not (eq-eqb (b % 2 ^ align) 0 m)) in
     ⊎-elim
-    (λ t. inr (sym (at-found size align k s b ok multiple (omega arith) u t), run-is f n size align b t))
-    (λ t. inl (sym (at-held size align k s b ok multiple (omega arith) u t), λ r. true≢false (sym (is-run f n size align b r) ∙ t)))
+    (λ t. inr (sym (run-some (At b) size align k s ok (omega arith) (at-found size align k s b u t)), run-is f n size align b t))
+    (λ t. inl (sym (run-some (At b) size align k s ok (omega arith) (at-held size align k s b u t)), λ r. true≢false (sym (is-run f n size align b r) ∙ t)))
     (sort (run? f n size align b))
 
 -- At the base b, not refused with 4, 3 or 2: the answer is refusal 5 exactly when the run does not stand at b.
@@ -106,7 +104,7 @@ pub base-refused : (k : ℕ) (s : List ℕ) (size align b : ℕ)
     → (runSays (At b) size align k s ≡ refused 5) ↔ (Run (free? k s) (cap k) size align b → ⊥)
 base-refused k s size align b a l m some u =
     let either = base-or-none k s size align b a l m some u in (
-      λ h. ⊎-elim (λ c. c .1) (λ c. absurd (unlike b 5 (sym (c .0) ∙ h))) either,
+      λ h. ⊎-elim (λ c. c .1) (λ c. absurd (apart b 5 (sym (c .0) ∙ h))) either,
       λ none. ⊎-elim (λ c. c .0) (λ c. absurd (none (c .1))) either,
     )
 
@@ -116,7 +114,7 @@ pub base-given : (k : ℕ) (s : List ℕ) (size align b : ℕ)
     → (v : ℕ) → (runSays (At b) size align k s ≡ given v) ↔ (Run (free? k s) (cap k) size align b × (v ≡ b))
 base-given k s size align b a l m some u v =
     let either = base-or-none k s size align b a l m some u in (
-      λ h. ⊎-elim (λ c. absurd (unlike v 5 (sym h ∙ c .0))) (λ c. (c .1, cc (c .0))) either,
+      λ h. ⊎-elim (λ c. absurd (apart v 5 (sym h ∙ c .0))) (λ c. (c .1, cc (c .0))) either,
       λ t. ⊎-elim (λ c. absurd (c .1 (t .0))) (λ c. c .0 ∙ ap given (sym (t .1))) either,
     )
 

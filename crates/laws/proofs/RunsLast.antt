@@ -6,17 +6,19 @@ use Prim.Native.Nat.{ℕ, zero, suc, _^_, _<_}
 use native.Mathlib.Omega.{arith}
 use lib.ListN.{getD, replicate}
 use borrow.Author.Tests.{ltb-true}
-use Rattle.bitmap.specs.declared.contiguous.Base.the-variants.{Any}
-use Rattle.bitmap.specs.Search.{firstFrom, all}
-use Rattle.bitmap.specs.Bits.{bit, pack}
-use Rattle.bitmap.specs.Tree.{words, cap, child, row, node, replaced, marked, renew, free?, true?}
-use Rattle.bitmap.specs.Change.{low, high, change}
-use Rattle.bitmap.specs.Take.{lowest}
+use Rattle.bitmap.specs.declared.base.Base.the-variants.{Any}
+use Rattle.words.specs.Search.{firstFrom, all}
+use Rattle.words.specs.Bits.{bit, pack}
+use Rattle.words.specs.Sizes.{words, cap, levelOf}
+use Rattle.words.specs.Tree.{child, row, node, free?, true?}
+use Rattle.change.specs.Renew.{replaced, marked, renew}
+use Rattle.change.specs.Change.{low, high, change}
+use Rattle.words.specs.Take.{lowest}
 use Rattle.bitmap.specs.Answer.{Said, given}
-use Rattle.bitmap.specs.Calls.{levelOf, answer, after}
-use Rattle.bitmap.proofs.Search.{all-at}
+use Rattle.bitmap.specs.Calls.{answer, after}
+use Rattle.words.proofs.Search.{all-at}
 use Rattle.laws.specs.Call.{Call, alloc, allocContiguous, callSays, callAfter}
-use Rattle.laws.specs.Maps.{TrueStore, freeIn, positions}
+use Rattle.bitmap.specs.Maps.{TrueStore, freeIn, positions}
 use Rattle.laws.specs.Order.{Inside, NoHigher, StoresOrdered}
 use Rattle.laws.proofs.Examples.{only}
 

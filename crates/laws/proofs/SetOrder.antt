@@ -8,15 +8,15 @@ use native.Mathlib.Decide.{ℕ-discrete}
 use native.Mathlib.Omega.{arith}
 use lib.Dec.{eqb, leb, ltb}
 use borrow.Author.Tests.{leb-true, leb-false, lt-leb, not-true, not-false}
-use Rattle.bitmap.specs.declared.contiguous.Base.{Base}
-use Rattle.bitmap.specs.declared.contiguous.Base.the-variants.{Any, At}
-use Rattle.bitmap.specs.Search.{all}
-use Rattle.bitmap.specs.Bits.{within}
-use Rattle.bitmap.specs.Run.{aligned, run?}
+use Rattle.bitmap.specs.declared.base.Base.{Base}
+use Rattle.bitmap.specs.declared.base.Base.the-variants.{Any, At}
+use Rattle.words.specs.Search.{all}
+use Rattle.words.specs.Bits.{within}
+use Rattle.words.specs.Run.{aligned, run?, misfit}
 use Rattle.bitmap.specs.Answer.{Said, given, refused, refuse}
-use Rattle.bitmap.specs.Calls.{misfit}
-use Rattle.bitmap.proofs.Search.{sort, first-is, first-mono, and-both, all-at, all-is}
-use Rattle.bitmap.proofs.Spans.{within-no, within-yes}
+use Rattle.words.proofs.Tests.{sort, and-both}
+use Rattle.words.proofs.Search.{first-is, first-mono, all-at, all-is}
+use Rattle.words.proofs.Within.{within-no, within-yes}
 use Rattle.bitmap.proofs.Refusals.{given-on}
 use Rattle.laws.specs.Call.{alloc, allocContiguous, dealloc}
 use Rattle.laws.specs.Sets.{Positions, with, without, found, range, lowestFrom, setSays, setAfter, settled}

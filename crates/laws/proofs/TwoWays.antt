@@ -7,20 +7,20 @@ use native.Mathlib.Omega.{arith}
 use lib.Dec.{eqb, leb, ltb}
 use lib.ListN.{length}
 use borrow.Author.Tests.{le-ltb}
-use Rattle.bitmap.specs.declared.cascade.Change.the-variants.{Insert}
-use Rattle.bitmap.specs.declared.contiguous.Way.the-variants.{Whole, Old}
-use Rattle.bitmap.specs.Tree.{cap, leaf?}
-use Rattle.bitmap.specs.Change.{change}
-use Rattle.bitmap.specs.GiveBack.{firstLeaf}
+use Rattle.words.specs.declared.kind.Change.the-variants.{Insert}
+use Rattle.words.specs.Sizes.{cap, levelOf}
+use Rattle.words.specs.Tree.{leaf?}
+use Rattle.change.specs.Change.{change}
+use Rattle.change.specs.GiveBack.{firstLeaf}
 use Rattle.bitmap.specs.Answer.{given, refuse}
-use Rattle.bitmap.specs.Calls.{levelOf, answer, after, rangeAfter, giveRunSays, giveRunAfter}
-use Rattle.bitmap.proofs.Search.{first-one}
+use Rattle.bitmap.specs.Calls.{answer, after, insertAfter, giveRunSays, giveRunAfter, giveRunOldAfter}
+use Rattle.words.proofs.Search.{first-one}
 use Rattle.bitmap.proofs.Refusals.{settle-on, given-on}
-use Rattle.bitmap.proofs.Leaves.{first-leaf}
-use Rattle.bitmap.proofs.GiveBacks.{give-all}
+use Rattle.change.proofs.Leaves.{first-leaf}
+use Rattle.change.proofs.GiveBacks.{give-all}
 use Rattle.laws.specs.Call.{deallocContiguous, deallocContiguousOld, insert, callSays, callAfter}
 
--- ---- of a map of k levels below its own word
+-- ---- of a map of level k
 
 module _ (base size k : ℕ) (s : List ℕ) where
   abbrev to : ℕ
@@ -36,11 +36,11 @@ module _ (base size k : ℕ) (s : List ℕ) where
   })
 
   -- then the two leave the same words
-  map-same : firstLeaf k s base to ≡ to → giveRunAfter Whole base size k s ≡ giveRunAfter Old base size k s
+  map-same : firstLeaf k s base to ≡ to → giveRunAfter base size k s ≡ giveRunOldAfter base size k s
   map-same e = rw (le-ltb (firstLeaf k s base to) to (omega arith), give-all k s base to (omega arith) e)
 
   -- a give-back that succeeds is insert's
-  map-inserts : given 0 ≡ giveRunSays base size k s → giveRunAfter Whole base size k s ≡ rangeAfter Insert base to k s
+  map-inserts : given 0 ≡ giveRunSays base size k s → giveRunAfter base size k s ≡ insertAfter base to k s
   map-inserts e =
       let met = refuse 6 (ltb (firstLeaf k s base to) to) (given 0) in
       let r = given-on 0 2 (ltb to base || ltb (cap k) to) (refuse 3 (eqb base to) met) e in

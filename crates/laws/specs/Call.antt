@@ -3,11 +3,9 @@ use Prim.Native.Nat.{ℕ}
 use mathlib.Core.Bool.{Bool, false}
 use mathlib.Core.List.{List}
 use lib.Dec.{eqb}
-use Rattle.bitmap.specs.declared.cascade.Change.the-variants.{Insert, Remove}
-use Rattle.bitmap.specs.declared.contiguous.Base.{Base}
-use Rattle.bitmap.specs.declared.contiguous.Way.the-variants.{Whole, Old}
+use Rattle.bitmap.specs.declared.base.Base.{Base}
 use Rattle.bitmap.specs.Answer.{Said}
-use Rattle.bitmap.specs.Calls.{allocSays, allocAfter, runSays, runAfter, nextSays, giveSays, giveAfter, giveRunSays, giveRunAfter, rangeSays, rangeAfter, emptySays, testSays, checkSays}
+use Rattle.bitmap.specs.Calls.{allocSays, allocAfter, runSays, runAfter, nextSays, giveSays, giveAfter, giveRunSays, giveRunAfter, giveRunOldAfter, rangeSays, insertAfter, removeAfter, emptySays, testSays, checkSays}
 
 -- a call with its numbers, in the order of the Rust
 pub data Call : Type 0 where
@@ -23,7 +21,7 @@ pub data Call : Type 0 where
   test : ℕ → Call
   check : Call
 
--- what it says of a map of k levels below its own word
+-- what it says of a map of level k
 abbrev pub callSays : Call → ℕ → List ℕ → Said
 callSays alloc = allocSays
 callSays (allocContiguous base size align) = runSays base size align
@@ -43,10 +41,10 @@ callAfter alloc = allocAfter
 callAfter (allocContiguous base size align) = runAfter base size align
 callAfter (next key) = λ k s. s
 callAfter (dealloc key) = giveAfter key
-callAfter (deallocContiguous base size) = giveRunAfter Whole base size
-callAfter (deallocContiguousOld base size) = giveRunAfter Old base size
-callAfter (insert a b) = rangeAfter Insert a b
-callAfter (remove a b) = rangeAfter Remove a b
+callAfter (deallocContiguous base size) = giveRunAfter base size
+callAfter (deallocContiguousOld base size) = giveRunOldAfter base size
+callAfter (insert a b) = insertAfter a b
+callAfter (remove a b) = removeAfter a b
 callAfter isEmpty = λ k s. s
 callAfter (test key) = λ k s. s
 callAfter check = λ k s. s

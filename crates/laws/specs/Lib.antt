@@ -1,5 +1,4 @@
 -- The public calls as data, what each does to a plain set of positions, true maps, and the order of two maps.
 pub mod Call
 pub mod Sets
-pub mod Maps
 pub mod Order

@@ -4,14 +4,15 @@ use mathlib.Core.Path.{_≡_}
 use mathlib.Core.Bool.{true}
 use mathlib.Core.List.{List, [], _∷_}
 use lib.ListN.{length}
-use Rattle.bitmap.specs.declared.contiguous.Base.{Base}
-use Rattle.bitmap.specs.Tree.{cap, free?}
+use Rattle.bitmap.specs.declared.base.Base.{Base}
+use Rattle.words.specs.Sizes.{cap}
+use Rattle.words.specs.Tree.{free?}
 use Rattle.bitmap.specs.Answer.{Said, given}
 use Rattle.bitmap.specs.Calls.{answer, after}
 use Rattle.laws.specs.Call as C
 use Rattle.laws.specs.Call.{Call, callSays, callAfter}
 use Rattle.laws.specs.Sets.{Positions}
-use Rattle.laws.specs.Maps.{TrueMap, TrueStore, freeIn, positions}
+use Rattle.bitmap.specs.Maps.{TrueMap, TrueStore, freeIn, positions}
 
 -- an operation with its numbers, whatever they are: one that is refused is an operation too
 pub data Op : Type 0 where

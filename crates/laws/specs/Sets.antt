@@ -2,12 +2,11 @@
 use Prim.Native.Nat.{ℕ, _+_, _-_, _%_, max}
 use mathlib.Core.Bool.{Bool, cond, not, _&&_, _||_}
 use lib.Dec.{eqb, leb, ltb}
-use Rattle.bitmap.specs.declared.contiguous.Base.the-variants.{Any, At}
-use Rattle.bitmap.specs.Search.{firstFrom}
-use Rattle.bitmap.specs.Bits.{digit, within}
-use Rattle.bitmap.specs.Run.{aligned, run?}
+use Rattle.bitmap.specs.declared.base.Base.the-variants.{Any, At}
+use Rattle.words.specs.Search.{firstFrom}
+use Rattle.words.specs.Bits.{digit, within}
+use Rattle.words.specs.Run.{aligned, run?, misfit}
 use Rattle.bitmap.specs.Answer.{Said, given, refused, refuse}
-use Rattle.bitmap.specs.Calls.{misfit}
 use Rattle.laws.specs.Call.{Call, alloc, allocContiguous, next, dealloc, deallocContiguous, deallocContiguousOld, insert, remove, isEmpty, test, check}
 
 -- a set of positions

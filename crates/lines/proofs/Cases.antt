@@ -9,15 +9,13 @@ use borrow.Author.Tests.{eqb-true, leb-false}
 use lib.Dec.{eqb, leb}
 use lib.ListN.{length, getD, drop, List·getD-eq-default}
 use Rattle.bitmap.specs.Answer.{Said, given, refused}
-use Rattle.bitmap.specs.declared.cascade.Change.the-variants.{Insert, Remove}
-use Rattle.bitmap.specs.declared.contiguous.Base.the-variants as B
-use Rattle.bitmap.specs.declared.contiguous.Way.the-variants.{Whole, Old}
-use Rattle.bitmap.specs.Tree.{words}
-use Rattle.bitmap.specs.Calls.{answer, after, allocSays, allocAfter, runSays, runAfter, nextSays, giveSays, giveAfter, giveRunSays, giveRunAfter, rangeSays, rangeAfter, emptySays, testSays}
+use Rattle.bitmap.specs.declared.base.Base.the-variants as B
+use Rattle.words.specs.Sizes.{words}
+use Rattle.bitmap.specs.Calls.{answer, after, allocSays, allocAfter, runSays, runAfter, nextSays, giveSays, giveAfter, giveRunSays, giveRunAfter, giveRunOldAfter, rangeSays, insertAfter, removeAfter, emptySays, testSays}
 use Rattle.lines.specs.declared.table.Reply.{Reply}
 use Rattle.lines.specs.declared.table.Reply.the-variants.{At, Yes, Not, No}
 use Rattle.lines.specs.Reply.{place, done, yes, replies, afters, allowed}
-use Rattle.bitmap.proofs.Search.{sort}
+use Rattle.words.proofs.Tests.{sort}
 use Rattle.lines.proofs.Replies.{Fine}
 
 -- ---- no command opens a map
@@ -66,13 +64,13 @@ module _ (a b c : ℕ) (s : List ℕ) where
         (
           done-fine (answer (giveSays a) s) (after (giveAfter a) s) s,
           (
-            done-fine (answer (giveRunSays a b) s) (after (giveRunAfter Whole a b) s) s,
+            done-fine (answer (giveRunSays a b) s) (after (giveRunAfter a b) s) s,
             (
-              done-fine (answer (giveRunSays a b) s) (after (giveRunAfter Old a b) s) s,
+              done-fine (answer (giveRunSays a b) s) (after (giveRunOldAfter a b) s) s,
               (
-                done-fine (answer (rangeSays a b) s) (after (rangeAfter Insert a b) s) s,
+                done-fine (answer (rangeSays a b) s) (after (insertAfter a b) s) s,
                 (
-                  done-fine (answer (rangeSays a b) s) (after (rangeAfter Remove a b) s) s,
+                  done-fine (answer (rangeSays a b) s) (after (removeAfter a b) s) s,
                   (
                     place-fine (answer (nextSays a) s) s s,
                     (

@@ -10,7 +10,7 @@ use lib.Dec.{leb, ltb}
 use lib.ListN.{length}
 use borrow.Author.Tests.{ltb-true, ltb-false, le-leb}
 use Rattle.lines.specs.Number.{digits?, value, numberOf, digits, decimal}
-use Rattle.bitmap.proofs.Search.{sort}
+use Rattle.words.proofs.Tests.{sort}
 use Rattle.lines.proofs.Numbers.{tens, digits-none, digits-one, digits-more, digits-length, digits-le, number-is}
 
 value-append : (v : ℕ) (s t : List ℕ) → value v (s ++ t) ≡ value (value v s) t

@@ -11,8 +11,7 @@ use lib.ListN.{length, getD, drop, length-append, drop-of-length-le}
 use lib.Seq.{drop-cons}
 use borrow.Author.Tests.{ltb-true, ltb-false, le-leb, lt-leb, lt-ltb, le-ltb}
 use Rattle.lines.specs.Number.{none, digits?, value, numberOf, digits}
-use Rattle.bitmap.proofs.Search.{sort}
-use Rattle.lines.proofs.Texts.{and-false}
+use Rattle.words.proofs.Tests.{sort, and-false}
 
 -- 10 to the power i
 unfoldable pub tens : ℕ → ℕ

@@ -1,12 +1,10 @@
 -- One answer: two answers and two exits of `lines` that both meet its generated contract for the same arguments are equal.
 -- Assumes nothing.
 use mathlib.Core.Path.{_≡_, sym, ap, ap₂, _∙_}
-use mathlib.Core.List.{List, []}
+use mathlib.Core.List.{List}
 use Prim.Native.Nat.{ℕ}
-use contract.Lifetimes.{Lfts}
-use denote.Triple.Clauses.{Lasts, atExit}
-use borrow.Fn.World.{ArgsD, ResD}
 use Rattle.bitmap.specs.Answer.{number}
+use Rattle.bitmap.specs.Once.{OneAnswer}
 use Rattle.bitmap.proofs.Numbered.{number-one, apart}
 use Rattle.lines.specs.declared.Printed.{Printed}
 use Rattle.lines.specs.declared.Printed.the-variants.{Bytes, No}
@@ -21,8 +19,7 @@ says-one (Bytes n) (No r) e = absurd (apart n (number r) e)
 says-one (No r) (Bytes n) e = absurd (apart n (number r) (sym e))
 says-one (No r) (No q) e = ap No (number-one r q e)
 
-pub lines-once : (κs : Lfts 3) (a : ArgsD lines.signature κs) (r₁ r₂ : ResD lines.signature κs) (w₁ w₂ : Lasts lines.ended κs a)
-    → lines-reads.Post κs a r₁ (atExit lines.ended κs a w₁) → lines-reads.Post κs a r₂ (atExit lines.ended κs a w₂) → (r₁ ≡ r₂) × (w₁ ≡ w₂)
+pub lines-once : OneAnswer lines.ended lines-reads.Post
 lines-once κs a r₁ r₂ w₁ w₂ p q = (
   says-one r₁ r₂ (p .0 ∙ sym (q .0)),
   ap₂ (λ (s o : List ℕ). (w₁ .0, (s, (o, w₁ .1 .1 .1)))) (p .1 .0 ∙ sym (q .1 .0)) (p .1 .1 ∙ sym (q .1 .1)),

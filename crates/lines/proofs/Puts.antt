@@ -20,7 +20,7 @@ put-turn s t at i l =
     rw (add-one, drop-cons t i 0 l, n)
 
 -- one text and then another
-pub put-append : (s t u : List ℕ) (at : ℕ) → sets s at (t ++ u) ≡ sets (sets s at t) (at + length t) u
+put-append : (s t u : List ℕ) (at : ℕ) → sets s at (t ++ u) ≡ sets (sets s at t) (at + length t) u
 put-append s [] u at = rw add-zero
 put-append s (b ∷ t) u at =
     let n : suc at + length t ≡ at + suc (length t) = omega arith in

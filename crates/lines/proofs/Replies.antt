@@ -15,8 +15,8 @@ use Rattle.lines.specs.Split.{pieces}
 use Rattle.lines.specs.Number.{decimal, digits, numberOf}
 use Rattle.lines.specs.Line.{same, sizeOf, alone, withOne, command, commandOf, lineOf}
 use Rattle.lines.specs.Reply.{text, replies, afters, allowed, replyTo, opened, mapAfter}
-use Rattle.lines.specs.Session.{renewed}
-use Rattle.bitmap.proofs.Search.{sort}
+use Rattle.lines.specs.Session.{mostWords, renewed}
+use Rattle.words.proofs.Tests.{sort}
 use Rattle.lines.proofs.Numbers.{digits-le}
 use Rattle.lines.proofs.Puts.{named-length}
 
@@ -65,7 +65,7 @@ text-room s l =
 
 -- a reply that opens a map comes where there is none, and leaves its words
 abbrev pub Fine : Reply → List ℕ → List ℕ → Type 0
-Fine (Map n w) t s = (t ≡ s) × (w ≤ 4369) × (length s ≡ 0)
+Fine (Map n w) t s = (t ≡ s) × (w ≤ mostWords) × (length s ≡ 0)
 Fine (At p) t s = Unit
 Fine Done t s = Unit
 Fine Yes t s = Unit
@@ -73,7 +73,7 @@ Fine Not t s = Unit
 Fine (No n) t s = Unit
 
 -- the words that it takes are there
-pub opened-room : (r : Reply) (t s : List ℕ) (m : ℕ) → Fine r t s → 4369 ≤ m → length t ≤ m → length (opened r t) ≤ m
+pub opened-room : (r : Reply) (t s : List ℕ) (m : ℕ) → Fine r t s → mostWords ≤ m → length t ≤ m → length (opened r t) ≤ m
 opened-room (Map n w) t s m f h l = omega (arith, length-replicate {A = ℕ} w 0)
 opened-room (At p) t s m f h l = l
 opened-room Done t s m f h l = l

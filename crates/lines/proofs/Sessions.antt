@@ -17,14 +17,14 @@ use Rattle.lines.proofs.Replies.{text-room}
 
 -- the session at byte i of the input, where the map has n words and `at` bytes are printed
 pub record Upto (input store₀ output₀ store output : List ℕ) (i n at : ℕ) : Type 0 where
-  pub rest-shown : sets output at (shown (take n store) (linesOf (drop i input))) ≡ sets output₀ 0 (shown [] (linesOf input))
-  pub rest-count : at + length (shown (take n store) (linesOf (drop i input))) ≡ length (shown [] (linesOf input))
-  pub rest-map : mapIn (take n store) (linesOf (drop i input)) ≡ mapIn [] (linesOf input)
+  rest-shown : sets output at (shown (take n store) (linesOf (drop i input))) ≡ sets output₀ 0 (shown [] (linesOf input))
+  rest-count : at + length (shown (take n store) (linesOf (drop i input))) ≡ length (shown [] (linesOf input))
+  rest-map : mapIn (take n store) (linesOf (drop i input)) ≡ mapIn [] (linesOf input)
   pub kept : drop n store ≡ drop n store₀
   pub sized : length store ≡ length store₀
   pub room : length output ≡ length output₀
   pub fits : n ≤ length store
-  pub paid : at ≤ 6 * i
+  paid : at ≤ 6 * i
   pub within : at ≤ 6 * length input
 
 -- what it has made in the end
@@ -91,7 +91,7 @@ module _ {input store₀ output₀ store output : List ℕ} {i n at : ℕ} (u : 
   pub line-room : at + length (text (replyTo (take n store) (lineOf line))) ≤ 6 * length input
   line-room = omega (arith, text-room (take n store) line, line-length, u .paid)
 
-  pub line-paid : at + length (text (replyTo (take n store) (lineOf line))) ≤ 6 * (e + 1)
+  line-paid : at + length (text (replyTo (take n store) (lineOf line))) ≤ 6 * (e + 1)
   line-paid = omega (arith, text-room (take n store) line, line-length, u .paid)
 
   module _ {store′ output′ : List ℕ} {n′ at′ : ℕ} (t : Stepped line store output n at store′ output′ n′ at′)

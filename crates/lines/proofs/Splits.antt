@@ -10,18 +10,18 @@ use lib.Dec.{eqb}
 use lib.ListN.{length, getD, take, drop, length-drop, drop-of-length-le}
 use lib.Seq.{drop-cons, drop-drop}
 use borrow.Author.Tests.{eq-eqb, ne-eqb}
-use Rattle.bitmap.proofs.Search.{sort}
+use Rattle.words.proofs.Tests.{sort}
 use Rattle.lines.specs.Split.{onFirst, pieces, before, lastLine, trimmed, linesOf}
 
 -- ---- the first piece
 
 -- its bytes are the first of the text
-pub before-take : (d : ℕ) (s : List ℕ) → take (length (before d s)) s ≡ before d s
+before-take : (d : ℕ) (s : List ℕ) → take (length (before d s)) s ≡ before d s
 unfolding before
 before-take d [] = refl
 before-take d (b ∷ s) = ⊎-elim (λ e. rw e) (λ e. rw e (ap (λ (t : List ℕ). b ∷ t) (before-take d s))) (sort (eqb b d))
 
-pub before-le : (d : ℕ) (s : List ℕ) → length (before d s) ≤ length s
+before-le : (d : ℕ) (s : List ℕ) → length (before d s) ≤ length s
 unfolding before
 before-le d [] = omega arith
 before-le d (b ∷ s) = ⊎-elim (λ e. rw e (omega arith)) (λ e. rw e (omega (arith, before-le d s))) (sort (eqb b d))
@@ -42,7 +42,7 @@ module _ (d : ℕ) (s : List ℕ) (i : ℕ) where
 
 -- ---- the pieces after it
 
-pub pieces-more : (d : ℕ) (s : List ℕ) → length (before d s) < length s
+pieces-more : (d : ℕ) (s : List ℕ) → length (before d s) < length s
     → pieces d s ≡ before d s ∷ pieces d (drop (suc (length (before d s))) s)
 unfolding pieces before
 pieces-more d [] l = absurd (omega arith)
@@ -52,7 +52,7 @@ pieces-more d (b ∷ s) l =
     (λ e. rw e (ap (onFirst b) (pieces-more d s (let m = rw e at l in omega arith))))
     (sort (eqb b d))
 
-pub pieces-last : (d : ℕ) (s : List ℕ) → length (before d s) ≡ length s → pieces d s ≡ before d s ∷ []
+pieces-last : (d : ℕ) (s : List ℕ) → length (before d s) ≡ length s → pieces d s ≡ before d s ∷ []
 unfolding pieces before
 pieces-last d [] l = refl
 pieces-last d (b ∷ s) l =
@@ -122,7 +122,7 @@ line-more s l =
     ∙ trimmed-more (before 10 s) (pieces 10 (drop (suc (length (before 10 s))) s)) (pieces-some 10 (drop (suc (length (before 10 s))) s))
 
 -- the first line and those after its line end; a line that ends where the text ends is the last
-pub lines-cons : (s : List ℕ) → 0 < length s → linesOf s ≡ before 10 s ∷ linesOf (drop (suc (length (before 10 s))) s)
+lines-cons : (s : List ℕ) → 0 < length s → linesOf s ≡ before 10 s ∷ linesOf (drop (suc (length (before 10 s))) s)
 lines-cons s h = ⊎-elim (line-last s h) (line-more s) (eq-or-lt-of-le (before-le 10 s))
 
 -- the same in the terms of a scan

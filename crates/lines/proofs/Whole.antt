@@ -10,11 +10,11 @@ use lib.Dec.{leb}
 use lib.ListN.{length, take, drop, length-append}
 use lib.Seq.{sets, take-all, take-length}
 use Rattle.bitmap.specs.Answer.{Said, given, refused}
-use Rattle.bitmap.specs.Tree.{words}
-use Rattle.bitmap.proofs.Refusals.{or-left, or-right, neither, given-on}
+use Rattle.words.specs.Sizes.{words}
+use Rattle.words.proofs.Tests.{or-left, or-right, neither, sort}
+use Rattle.bitmap.proofs.Refusals.{given-on}
 use Rattle.lines.specs.Split.{linesOf}
-use Rattle.lines.specs.Session.{renewed, shown, mapIn, printed, short, linesSays, wordsAfter, outputAfter}
-use Rattle.bitmap.proofs.Search.{sort}
+use Rattle.lines.specs.Session.{mostWords, renewed, shown, mapIn, printed, short, linesSays, wordsAfter, outputAfter}
 use Rattle.lines.proofs.Puts.{put-front}
 
 -- the first bytes of a text that may have fewer
@@ -36,19 +36,19 @@ module _ (input store output : List ℕ) where
   unfolding linesSays wordsAfter outputAfter
   refuse-nine h = (sym (rw h), (sym (rw h), sym (rw h)))
 
-  pub few-words : length store < 4369 → Done (refused 9) store output
+  pub few-words : length store < mostWords → Done (refused 9) store output
   unfolding words
-  few-words h = refuse-nine (or-left _ _ (lt-ltb (length store) 4369 h))
+  few-words h = refuse-nine (or-left _ _ (lt-ltb (length store) mostWords h))
 
-  module _ (n : ℕ) (is : n ≡ min 65536 (length input)) (enough : 4369 ≤ length store) where
+  module _ (n : ℕ) (is : n ≡ min 65536 (length input)) (enough : mostWords ≤ length store) where
     pub few-bytes : length output < 6 * n → Done (refused 9) store output
     unfolding words
-    few-bytes h = refuse-nine (or-right _ _ (le-ltb (length store) 4369 enough) (lt-ltb (length output) (6 * min 65536 (length input)) (omega arith)))
+    few-bytes h = refuse-nine (or-right _ _ (le-ltb (length store) mostWords enough) (lt-ltb (length output) (6 * min 65536 (length input)) (omega arith)))
 
     module _ (room : 6 * n ≤ length output) where
       long : short input store output ≡ false
       unfolding words
-      long = neither _ _ (le-ltb (length store) 4369 enough) (le-ltb (length output) (6 * min 65536 (length input)) (omega arith))
+      long = neither _ _ (le-ltb (length store) mostWords enough) (le-ltb (length output) (6 * min 65536 (length input)) (omega arith))
 
       read : take n input ≡ take 65536 input
       read = ap (λ (k : ℕ). take k input) is ∙ take-min 65536 input

@@ -4,12 +4,10 @@ use mathlib.Core.Bool.{cond}
 use mathlib.Core.List.{List, [], _∷_, _++_}
 use lib.Dec.{eqb, leb}
 use lib.ListN.{length, getD, replicate}
-use Rattle.bitmap.specs.declared.cascade.Change.the-variants.{Insert, Remove}
-use Rattle.bitmap.specs.declared.contiguous.Base.the-variants as B
-use Rattle.bitmap.specs.declared.contiguous.Way.the-variants.{Whole, Old}
+use Rattle.bitmap.specs.declared.base.Base.the-variants as B
 use Rattle.bitmap.specs.Answer.{Said, given, refused}
-use Rattle.bitmap.specs.Tree.{words, cap}
-use Rattle.bitmap.specs.Calls.{answer, after, allocSays, allocAfter, runSays, runAfter, nextSays, giveSays, giveAfter, giveRunSays, giveRunAfter, rangeSays, rangeAfter, emptySays, testSays}
+use Rattle.words.specs.Sizes.{words, cap}
+use Rattle.bitmap.specs.Calls.{answer, after, allocSays, allocAfter, runSays, runAfter, nextSays, giveSays, giveAfter, giveRunSays, giveRunAfter, giveRunOldAfter, rangeSays, insertAfter, removeAfter, emptySays, testSays}
 use Rattle.lines.specs.declared.read.Line.{Line}
 use Rattle.lines.specs.declared.table.Reply.{Reply}
 use Rattle.lines.specs.declared.table.Reply.the-variants.{Map, At, Done, Yes, Not, No}
@@ -71,10 +69,10 @@ afters a b c s =
     ∷ after (runAfter B.Any a b) s
     ∷ after (runAfter (B.At a) b c) s
     ∷ after (giveAfter a) s
-    ∷ after (giveRunAfter Whole a b) s
-    ∷ after (giveRunAfter Old a b) s
-    ∷ after (rangeAfter Insert a b) s
-    ∷ after (rangeAfter Remove a b) s
+    ∷ after (giveRunAfter a b) s
+    ∷ after (giveRunOldAfter a b) s
+    ∷ after (insertAfter a b) s
+    ∷ after (removeAfter a b) s
     ∷ s
     ∷ s
     ∷ s

@@ -7,7 +7,7 @@ use lib.Dec.{eqb, ltb}
 use lib.ListN.{length, take, drop}
 use lib.Seq.{sets}
 use Rattle.bitmap.specs.Answer.{Said, given, refused, refuse, number}
-use Rattle.bitmap.specs.Tree.{words}
+use Rattle.words.specs.Sizes.{words}
 use Rattle.lines.specs.declared.Printed.{Printed}
 use Rattle.lines.specs.declared.Printed.the-variants.{Bytes, No}
 use Rattle.lines.specs.Split.{linesOf}
@@ -52,9 +52,13 @@ printed input = shown [] (linesOf (cut input))
 abbrev pub mapOf : List ℕ → List ℕ
 mapOf input = mapIn [] (linesOf (cut input))
 
+-- the words of the largest map that a line opens
+abbrev pub mostWords : ℕ
+mostWords = words 3
+
 -- the words are fewer than the largest size needs, or the output has fewer than 6 bytes for each byte read
 abbrev pub short : List ℕ → List ℕ → List ℕ → Bool
-short input store output = ltb (length store) (words 3) || ltb (length output) (6 * min 65536 (length input))
+short input store output = ltb (length store) mostWords || ltb (length output) (6 * min 65536 (length input))
 
 -- what the call says: how many bytes it printed, or refusal 9
 abbrev pub says : Printed → Said

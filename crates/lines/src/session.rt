@@ -7,7 +7,7 @@ ghost use lib.Seq.{sets};
 ghost use Rattle.lines.specs.Split.{linesOf};
 ghost use Rattle.lines.specs.Line.{lineOf};
 ghost use Rattle.lines.specs.Reply.{text, replyTo, opened};
-ghost use Rattle.lines.specs.Session.{renewed, Stepped, shown, mapIn};
+ghost use Rattle.lines.specs.Session.{mostWords, renewed, Stepped, shown, mapIn};
 use crate::read;
 use crate::table;
 use crate::table::Reply;
@@ -52,7 +52,7 @@ fn open(reply: Reply, n: usize, words: &mut [u16]) -> usize
 
 // Reads one line, answers it on the map's n words, and writes the answer from `at` on.
 fn step(line: &[u8], n: usize, at: usize, words: &mut [u16], out: &mut [u8]) -> State
-    requires { ⌜ (n ≤ length (now words)) × (4369 ≤ length (now words)) × (at + length (text (replyTo (take n (now words)) (lineOf (now line)))) ≤ length (now out)) ⌝ }
+    requires { ⌜ (n ≤ length (now words)) × (mostWords ≤ length (now words)) × (at + length (text (replyTo (take n (now words)) (lineOf (now line)))) ≤ length (now out)) ⌝ }
     ensures { λ r. ⌜ Stepped (now (line .entry)) (now (words .entry)) (now (out .entry)) n at (now (words .exit)) (now (out .exit)) (r .n) (r .at) ⌝ }
 {
     let l = read::read_line(line);
@@ -65,7 +65,7 @@ fn step(line: &[u8], n: usize, at: usize, words: &mut [u16], out: &mut [u8]) -> 
 
 // Goes through the lines of the input, and answers how many bytes it printed.
 pub fn session(input: &[u8], words: &mut [u16], out: &mut [u8]) -> usize
-    requires { ⌜ (4369 ≤ length (now words)) × (6 * length (now input) ≤ length (now out)) × (length (now input) ≤ 65536) ⌝ }
+    requires { ⌜ (mostWords ≤ length (now words)) × (6 * length (now input) ≤ length (now out)) × (length (now input) ≤ 65536) ⌝ }
     ensures { λ r. ⌜ (r ≡ length (shown [] (linesOf (now (input .entry))))) × (r ≤ length (now (out .entry))) ⌝ }
     ensures { λ _. ⌜ now (words .exit) ≡ renewed (mapIn [] (linesOf (now (input .entry)))) (now (words .entry)) ⌝ }
     ensures { λ _. ⌜ now (out .exit) ≡ sets (now (out .entry)) 0 (shown [] (linesOf (now (input .entry)))) ⌝ }

@@ -1,7 +1,7 @@
 // The table of cases: what each command is answered, on the words of a map.
 ghost use mathlib.Core.Path.{_≡_};
 ghost use lib.ListN.{getD};
-ghost use Rattle.bitmap.specs.Answer.{number, taken, changed, told};
+ghost use Rattle.bitmap.specs.Answer.{taken, changed, told};
 ghost use Rattle.lines.specs.Reply.{place, done, yes, replies, afters, allowed};
 use bitmap::Base;
 use bitmap::BitAlloc4K;
@@ -9,7 +9,6 @@ use bitmap::BitAlloc16;
 use bitmap::BitAlloc64K;
 use bitmap::BitAlloc256;
 use bitmap::Changed;
-use bitmap::Refusal;
 use bitmap::Taken;
 use bitmap::Told;
 
@@ -23,31 +22,13 @@ pub enum Reply {
     No(usize),
 }
 
-// The number of a refusal.
-fn number(r: Refusal) -> usize
-    ensures { λ n. ⌜ n ≡ number r ⌝ }
-{
-    match r {
-        Refusal::WordCount => 1,
-        Refusal::PastEnd => 2,
-        Refusal::NoSize => 3,
-        Refusal::Alignment => 4,
-        Refusal::NoneFree => 5,
-        Refusal::AlreadyFree => 6,
-        Refusal::Untrue => 7,
-        Refusal::BadImage => 8,
-        Refusal::TooShort => 9,
-        Refusal::BadLine => 10,
-    }
-}
-
 // The reply of a take or a look-up.
 fn place(t: Taken) -> Reply
     ensures { λ r. ⌜ r ≡ place (taken t) ⌝ }
 {
     match t {
         Taken::At(p) => Reply::At(p),
-        Taken::No(r) => Reply::No(number(r)),
+        Taken::No(r) => Reply::No(bitmap::number(r)),
     }
 }
 
@@ -57,7 +38,7 @@ fn done(t: Changed) -> Reply
 {
     match t {
         Changed::Done => Reply::Done,
-        Changed::No(r) => Reply::No(number(r)),
+        Changed::No(r) => Reply::No(bitmap::number(r)),
     }
 }
 
@@ -68,7 +49,7 @@ fn yes(t: Told) -> Reply
     match t {
         Told::Yes => Reply::Yes,
         Told::Not => Reply::Not,
-        Told::No(r) => Reply::No(number(r)),
+        Told::No(r) => Reply::No(bitmap::number(r)),
     }
 }
 

@@ -1,6 +1,6 @@
-// A tour of the bitmap: its seven sizes, the two examples of the Rust's doc comments, and every public call on maps of one to
-// four levels, each refusal among them. A line is a call with its answer and, after a change, the words that are not 0.
-ghost use Prim.Native.Nat.{_≤_};
+// A tour of the bitmap: its seven sizes, and then the calls of a script, its standard input: the two examples of the Rust's doc
+// comments, every public call on maps of one to four levels with each refusal, and maps that are not true. A line of the output is a
+// call with its answer and, after a change, the words that are not 0.
 use bitmap::BitAlloc1M;
 use bitmap::BitAlloc4K;
 use bitmap::BitAlloc16;
@@ -8,33 +8,19 @@ use bitmap::BitAlloc16M;
 use bitmap::BitAlloc64K;
 use bitmap::BitAlloc256;
 use bitmap::BitAlloc256M;
+use libc::STDIN_FILENO;
 
 mod calls;
-mod runs;
+mod script;
 mod show;
-mod steps;
-mod untrue;
-
-use steps::Step;
 
 fn main() {
     sizes();
-    doc_examples();
-    calls_on_each_size();
-    calls::on_wrong_counts();
-    runs::in_a_word();
-    runs::across_words();
-    runs::lowest();
-    runs::across_small_children();
-    runs::across_children();
-    runs::given_back();
-    runs::given_back_in_children();
-    untrue::seen_and_empty();
-    untrue::unseen();
-    untrue::recomputed();
-    untrue::given_back();
-    untrue::of_three_levels();
-    untrue::of_four_levels();
+    let mut input = io::large_buffer();
+    let n = io::read_full(STDIN_FILENO, &mut input);
+    // one word more than a map of four levels has
+    let mut room = [0u16; BitAlloc64K::WORDS + 1];
+    play(&input[..n], &mut room);
 }
 
 fn size(name: &[u8], cap: usize, words: usize) {
@@ -47,7 +33,7 @@ fn size(name: &[u8], cap: usize, words: usize) {
 }
 
 fn sizes() {
-    show::title(b"the sizes");
+    show::text(b"-- the sizes\n");
     size(b"BitAlloc16", BitAlloc16::CAP, BitAlloc16::WORDS);
     size(b"BitAlloc256", BitAlloc256::CAP, BitAlloc256::WORDS);
     size(b"BitAlloc4K", BitAlloc4K::CAP, BitAlloc4K::WORDS);
@@ -57,58 +43,63 @@ fn sizes() {
     size(b"BitAlloc256M", BitAlloc256M::CAP, BitAlloc256M::WORDS);
 }
 
-// The Rust's doc comments of BitAlloc256 and of BitAlloc16 have the same steps.
-fn doc_examples() {
-    show::title(b"the example of BitAlloc256");
-    let mut large = [0u16; BitAlloc256::WORDS];
-    doc_example(&mut large);
-    show::title(b"the example of BitAlloc16");
-    let mut small = [0u16; BitAlloc16::WORDS];
-    doc_example(&mut small);
-}
-
-fn doc_example(s: &mut [u16]) {
-    steps::insert(s, 0, 16);
-    tests(s);
-    let list = [
-        Step::Remove(2, 8),
-        Step::Alloc,
-        Step::Alloc,
-        Step::Alloc,
-        Step::Dealloc(0),
-        Step::Dealloc(1),
-        Step::Dealloc(8),
-        Step::IsEmpty,
-    ];
-    steps::play(s, list);
-}
-
-// The first 16 positions.
-fn tests(s: &[u16]) {
-    for i in 0..16 {
-        steps::test(s, i);
+// The lines of the script, one after the other.
+fn play(input: &[u8], room: &mut [u16]) {
+    let mut n = 0;
+    let mut at = 0;
+    while at < input.len() {
+        let end = bytes::scan::find(input, at, input.len(), b'\n');
+        n = line(&input[at..end], room, n);
+        at = end + 1;
     }
 }
 
-fn calls_on_each_size() {
-    show::title(b"every call, 1 level");
-    let mut one = [0u16; BitAlloc16::WORDS];
-    every_call(&mut one, BitAlloc16::CAP, 4);
-    show::title(b"every call, 2 levels");
-    let mut two = [0u16; BitAlloc256::WORDS];
-    every_call(&mut two, BitAlloc256::CAP, 8);
-    show::title(b"every call, 3 levels");
-    let mut three = [0u16; BitAlloc4K::WORDS];
-    every_call(&mut three, BitAlloc4K::CAP, 12);
-    show::title(b"every call, 4 levels");
-    let mut four = [0u16; BitAlloc64K::WORDS];
-    every_call(&mut four, BitAlloc64K::CAP, 16);
+// A line of the script, where the first n words of the room are lent; answers how many are lent from now on.
+//   -- TEXT      is printed
+//   store N      N words are lent, all 0
+//   word I W     word I becomes W
+//   lent         prints the words that are lent
+//   anything else is a call, with its arguments
+fn line(l: &[u8], room: &mut [u16], n: usize) -> usize {
+    if script::begins(l, b"store ") {
+        clear(room);
+        return script::field(l, 1) as usize;
+    }
+    if script::begins(l, b"word ") {
+        set(
+            room,
+            script::field(l, 1) as usize,
+            (script::field(l, 2) % 65536) as u16,
+        );
+        return n;
+    }
+    show::text(l);
+    if n <= room.len() {
+        told(l, &mut room[0..n]);
+    }
+    n
 }
 
-// On an all taken map of cap = 2^bits positions.
-fn every_call(s: &mut [u16], cap: usize, bits: usize)
-    requires { ⌜ (16 ≤ cap) × (cap ≤ 65536) × (bits ≤ 16) ⌝ }
-{
-    calls::positions(s, cap);
-    calls::runs(s, cap, bits);
+// What follows a line that is printed.
+fn told(l: &[u8], store: &mut [u16]) {
+    if script::begins(l, b"-- ") {
+        show::text(b"\n");
+    } else if script::begins(l, b"lent") {
+        show::number(store.len());
+        show::words(store);
+    } else {
+        calls::call(l, store);
+    }
+}
+
+fn clear(room: &mut [u16]) {
+    for i in 0..room.len() {
+        room[i] = 0;
+    }
+}
+
+fn set(room: &mut [u16], i: usize, w: u16) {
+    if i < room.len() {
+        room[i] = w;
+    }
 }

@@ -14,14 +14,14 @@ use Rattle.image.proofs.write.Statement.{statement}
 use Rattle.image.proofs.write.Tie as tie
 
 -- where the image ends
-ends : (c : tie.After-start-of) → c .start-of .result ≡ imageLength (c .before .before .before .before .before .store-level .result)
+ends : (c : tie.After-start-of) → c .start-of .result ≡ imageLength (c .before .before .before .before .before .level-of .result)
 ends c = c .start-of .ensures .0 ∙ ap start (add-one _)
 
-store-level-requires : tie.Need-store-level-requires
-store-level-requires c κs = search needs
+level-of-requires : tie.Need-level-of-requires
+level-of-requires c κs = search needs
 
 returns : tie.Need-returns
-returns c = write-no-level (c .before .before .before .before .args .store .now) _ _ (c .before .store-level .ensures) (c .if1 .taken)
+returns c = write-no-level (c .before .before .before .before .args .store .now) _ _ (c .before .level-of .ensures) (c .if1 .taken)
 
 check-requires : tie.Need-check-requires
 check-requires c κs = search needs
@@ -34,8 +34,8 @@ returns-2 c =
     let x = c .before .before in
     let other : c .before .check .result ≡ Yes → ⊥ = λ e.
     ⊎-elim (λ (z : _≡_ {A = ℕ} 0 1). omega arith) (λ (z : _≡_ {A = ℕ} 0 2). omega arith) (rw e at (c .match .keys2)) in
-    write-untrue (x .before .before .before .before .args .store .now) _ _ (x .before .store-level .ensures) (x .if1 .left)
-    (check-no (x .before .before .before .before .args .store .now) _ (x .before .store-level .ensures) (x .if1 .left) other (c .before .check .ensures))
+    write-untrue (x .before .before .before .before .args .store .now) _ _ (x .before .level-of .ensures) (x .if1 .left)
+    (check-no (x .before .before .before .before .args .store .now) _ (x .before .level-of .ensures) (x .if1 .left) other (c .before .check .ensures))
 
 add-start-of : tie.Need-add-start-of
 add-start-of c = search needs
@@ -47,14 +47,14 @@ returns-3 : tie.Need-returns-3
 returns-3 c =
     let y = c .before .before in
     let x = y .before .before .before in
-    write-short (x .before .before .before .before .args .store .now) _ _ (x .before .store-level .ensures) (x .if1 .left)
-    (check-yes (x .before .before .before .before .args .store .now) _ (x .before .store-level .ensures) (x .if1 .left) (y .enum-told .given .1) (y .before .before .check .ensures)) (omega (arith, ends (c .before)))
+    write-short (x .before .before .before .before .args .store .now) _ _ (x .before .level-of .ensures) (x .if1 .left)
+    (check-yes (x .before .before .before .before .args .store .now) _ (x .before .level-of .ensures) (x .if1 .left) (y .enum-told .given .1) (y .before .before .check .ensures)) (omega (arith, ends (c .before)))
 
 write-all-requires : tie.Need-write-all-requires
 write-all-requires c κs =
     let z = c .before .before in
     let x = z .before .before .before .before in
-    (omega arith, sized (x .before .before .before .before .args .store .now) _ (x .before .store-level .ensures) (x .if1 .left), omega (arith, ends z))
+    (omega arith, sized (x .before .before .before .before .args .store .now) _ (x .before .level-of .ensures) (x .if1 .left), omega (arith, ends z))
 
 same-length : tie.Need-same-length
 same-length c = search needs
@@ -64,8 +64,8 @@ returns-4 c =
     let z = c .before .before .before .before .before in
     let y = z .before in
     let x = y .before .before .before in
-    let done = write-done (x .before .before .before .before .args .store .now) _ _ (x .before .store-level .ensures) (x .if1 .left)
-    (check-yes (x .before .before .before .before .args .store .now) _ (x .before .store-level .ensures) (x .if1 .left) (y .enum-told .given .1) (y .before .before .check .ensures))
+    let done = write-done (x .before .before .before .before .args .store .now) _ _ (x .before .level-of .ensures) (x .if1 .left)
+    (check-yes (x .before .before .before .before .args .store .now) _ (x .before .level-of .ensures) (x .if1 .left) (y .enum-told .given .1) (y .before .before .check .ensures))
     (omega (arith, ends z)) (c .before .before .write-all .ensures) in
     (ap given (ends z) ∙ done .0, done .1)
 
@@ -73,7 +73,7 @@ pub write-spec : {M : Type 1} → statement M
 write-spec =
     tie.close
     (tie.spec
-    store-level-requires
+    level-of-requires
     returns
     check-requires
     enum-told

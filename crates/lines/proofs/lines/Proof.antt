@@ -2,6 +2,7 @@
 use mathlib.Core.Path.{sym}
 use Prim.Native.Nat.{_≤_}
 use native.Mathlib.Omega.{arith}
+use Rattle.words.specs.Sizes.{words}
 use lib.ListN.{length}
 use lib.Seq.{length-take-le}
 use Rattle.lines.proofs.Whole.{few-words, few-bytes, whole}
@@ -17,12 +18,14 @@ least-requires : tie.Need-least-requires
 least-requires c κs = search needs
 
 returns : tie.Need-returns
+unfolding words
 returns c = few-words _ _ _ (c .if1 .taken)
 
 mul-if2 : tie.Need-mul-if2
 mul-if2 c = search needs
 
 returns-2 : tie.Need-returns-2
+unfolding words
 returns-2 c =
     let e = c .before in
     few-bytes _ _ _ (e .before .least .result) (e .before .least .ensures) (e .if1 .left) (c .if2 .taken)
@@ -33,6 +36,7 @@ slice-aggregate-session c =
     sym (length-take-le (l .least .result) (l .before .before .before .before .args .input .now) (read-le l))
 
 session-requires : tie.Need-session-requires
+unfolding words
 session-requires c κs =
     let l = c .before .before .before .before .before in
     let n = length-take-le (l .least .result) (l .before .before .before .before .args .input .now) (read-le l) in
@@ -45,6 +49,7 @@ same-length-2 : tie.Need-same-length-2
 same-length-2 c = search needs
 
 returns-3 : tie.Need-returns-3
+unfolding words
 returns-3 c =
     let d = c .before .before .before .before in
     let e = d .before .before .before .before in

@@ -1,91 +1,75 @@
--- `bitmap::contiguous::alloc_contiguous` meets its contract: the run that is found, and then the change of `remove`. Assumes nothing.
+-- `bitmap::contiguous::alloc_contiguous` meets its contract: a single take that is refused left the words as they were. Assumes nothing.
 use borrow.Author.Needs.{needs}
 use mathlib.Core.Path.{_≡_, sym, ap, _∙_}
-use mathlib.Core.List.{List}
-use Prim.Native.Nat.{ℕ, _+_, _≤_, _<_}
-use native.Mathlib.Omega.{arith}
-use Rattle.bitmap.specs.declared.cascade.Change.the-variants.{Remove}
-use Rattle.bitmap.specs.Tree.{cap}
-use Rattle.bitmap.specs.Change.{change}
-use Rattle.bitmap.specs.Answer.{given, taken}
-use Rattle.bitmap.specs.Calls.{runSays}
-use Rattle.bitmap.proofs.Levels.{cap-small}
-use Rattle.bitmap.proofs.Refusals.{settle-no, settle-on}
-use Rattle.bitmap.proofs.RunAnswers.{run-fits}
+use mathlib.Core.Logic.{⊎-elim}
+use lib.ListN.{length}
+use Rattle.bitmap.specs.Answer.{taken}
+use Rattle.bitmap.proofs.Refusals.{settle-no}
+use Rattle.bitmap.proofs.RunOfOne.{one-found, one-after}
 use Rattle.bitmap.proofs.contiguous.alloc_contiguous.Statement.{statement}
 use Rattle.bitmap.proofs.contiguous.alloc_contiguous.Tie as tie
-use Rattle.bitmap.proofs.contiguous.alloc_contiguous.Reads as reads
-use Rattle.bitmap.proofs.contiguous.alloc_contiguous.Lts as lts
-use Rattle.bitmap.proofs.cascade.for_range.Reads as for-range
-use Rattle.bitmap.proofs.contiguous.find_run.Reads as find-run
 
--- what a take of size positions from b on makes of the words
-abbrev made : ℕ → ℕ → List ℕ → ℕ → List ℕ
-made size k s b = change Remove k s b (b + size)
+-- the words are as lent where the run is looked for
+kept : (c : tie.At-match-came) → c .match .s ≡ c .before .before .args .s .now
+kept c =
+    ⊎-elim
+    (λ y. y .10 ∙ y .5 .ensures .1 ∙ sym (settle-no _ _ _ _ (sym (ap taken (y .9 .given .1)) ∙ y .5 .ensures .0)))
+    (λ z. ⊎-elim (λ y. y .4) (λ z. ⊎-elim (λ y. y .3) (λ y. y .2) z) z)
+    (c .match .came)
 
-abbrev claims : lts.Claims
-claims = (find-run.Asked, find-run.Learnt, for-range.Asked, for-range.Learnt)
+enum-told : tie.Need-enum-told
+enum-told c = search needs
 
--- a run was found
-module _ (f : lts.After-b claims reads.Pre reads.Post) where
-  abbrev start : lts.Start claims reads.Pre reads.Post
-  start = f .before .before .before .before .before
+alloc-one-requires : tie.Need-alloc-one-requires
+alloc-one-requires c κs = let s = c .before .before .before .before .before .before in (s .pre .0, s .pre .1)
 
-  abbrev at : ℕ
-  at = f .b .given .0 .0
-
-  found-at : given at ≡ runSays (start .args .base) (start .args .size) (start .args .align-log2) (start .args .k) (start .args .s .now)
-  found-at = sym (ap taken (f .b .given .1)) ∙ f .before .before .find-run .ensures
-
-  fits-in : (0 < start .args .size) × (at + start .args .size ≤ cap (start .args .k))
-  fits-in = run-fits (start .args .base) (start .args .size) (start .args .align-log2) (start .args .k) (start .args .s .now) at found-at
-
-find-run-requires : tie.Need-find-run-requires
-find-run-requires c κs = search needs
-
-enum-known-b : tie.Need-enum-known-b
-enum-known-b c = search needs
-
-add-for-range : tie.Need-add-for-range
-add-for-range c = let fits = fits-in (c .before .before) in omega (arith, fits, cap-small (start (c .before .before) .args .k) (omega arith))
-
-for-range-requires : tie.Need-for-range-requires
-for-range-requires c κs =
-    let fits = fits-in (c .before .before) in
-    (omega arith, start (c .before .before) .pre .1, omega (arith, fits .0), omega (arith, fits .1))
-
-enum-known-r : tie.Need-enum-known-r
-enum-known-r c = search needs
+enum-known-p : tie.Need-enum-known-p
+enum-known-p c = search needs
 
 same-length : tie.Need-same-length
 same-length c = search needs
 
 returns : tie.Need-returns
 returns c =
-    let f = c .before .before .before .before .before in
-    let a = start f .args in
-    (found-at f, c .before .before .for-range .ensures ∙ settle-on _ (at f) (a .s .now) (made (a .size) (a .k) (a .s .now)) (found-at f))
+    let p = c .before in
+    let one = p .before .before .before .before in
+    let by = one .before .before in
+    let told = by .before .before in
+    let a = told .before .before .before .args in
+    let e = sym (ap taken (p .p .given .1)) ∙ one .alloc-one .ensures .0 in
+    rw (told .enum-told .given .1, by .before .if1 .taken, by .if2 .taken) (one-found (a .k) (a .s .now) _ e, one .alloc-one .ensures .1 ∙ one-after (a .k) (a .s .now) _ e)
+
+enum-told-2 : tie.Need-enum-told-2
+enum-told-2 c = search needs
+
+enum-told-3 : tie.Need-enum-told-3
+enum-told-3 c = search needs
+
+alloc-run-requires : tie.Need-alloc-run-requires
+alloc-run-requires c κs = let s = c .before .before .before in (s .pre .0, ap length (kept (c .before)) ∙ s .pre .1)
 
 same-length-2 : tie.Need-same-length-2
-same-length-2 c = search needs
+same-length-2 c =
+    let m = c .before .before .before .before in
+    let e : length (m .match .s) ≡ length (m .before .before .args .s .now) = ap length (kept m) in
+    search needs
 
 returns-2 : tie.Need-returns-2
 returns-2 c =
-    let found = c .before .before .before in
-    let a = found .before .before .before .args in
-    let e = sym (ap taken (c .before .r .given .1)) ∙ found .find-run .ensures in
-    (e, settle-no _ _ (a .s .now) (made (a .size) (a .k) (a .s .now)) e)
+    let r = c .before .before in
+    rw (kept (r .before .before)) at (r .alloc-run .ensures)
 
 pub alloc-contiguous-spec : {M : Type 1} → statement M
 alloc-contiguous-spec =
     tie.close
     (tie.spec
-    find-run-requires
-    enum-known-b
-    add-for-range
-    for-range-requires
-    enum-known-r
+    enum-told
+    alloc-one-requires
+    enum-known-p
     same-length
     returns
+    enum-told-2
+    enum-told-3
+    alloc-run-requires
     same-length-2
     returns-2)

@@ -2,8 +2,8 @@
 use borrow.Author.Needs.{needs}
 use mathlib.Core.Path.{sym, _∙_}
 use Prim.Native.Nat.{_*_}
-use Rattle.bitmap.proofs.Words.{shl-one}
-use Rattle.image.proofs.Depths.{count-pow, count-small}
+use Rattle.words.proofs.Words.{shl-one}
+use Rattle.words.proofs.Places.{count-pow, count-small}
 use native.Mathlib.Omega.{arith}
 use Rattle.image.proofs.layout.count_of.Statement.{statement}
 use Rattle.image.proofs.layout.count_of.Tie as tie

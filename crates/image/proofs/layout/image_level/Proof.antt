@@ -5,8 +5,8 @@ use Prim.Native.Nat.{_≤_, _-_}
 use native.Mathlib.Numerals.{add-one}
 use lib.Dec.{eqb}
 use borrow.Author.Tests.{eq-eqb, ne-eqb}
-use Rattle.bitmap.specs.Search.{firstFrom}
-use Rattle.bitmap.proofs.Search.{first-at, first-on, first-end}
+use Rattle.words.specs.Search.{firstFrom}
+use Rattle.words.proofs.Search.{first-at, first-on, first-end}
 use Rattle.image.specs.Image.{start, imageLength, imageLevel}
 use native.Mathlib.Omega.{arith}
 use Rattle.image.proofs.layout.image_level.Statement.{statement}

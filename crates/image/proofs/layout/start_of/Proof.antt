@@ -2,10 +2,16 @@
 use borrow.Author.Needs.{needs}
 use mathlib.Core.Path.{sym, ap}
 use Rattle.image.specs.Image.{start}
-use Rattle.image.proofs.Depths.{start-from, start-small}
+use Rattle.image.proofs.Starts.{start-from, start-small}
+use Prim.Native.Nat.{_-_, _≤_}
 use native.Mathlib.Omega.{arith}
+use Rattle.words.proofs.Levels.{words-small}
 use Rattle.image.proofs.layout.start_of.Statement.{statement}
 use Rattle.image.proofs.layout.start_of.Tie as tie
+
+-- the words of the depths before d
+small : (c : tie.After-words-of) → c .words-of .result ≤ 17895697
+small c = omega (arith, c .words-of .ensures, words-small (c .before .before .args .d - 1) (omega arith))
 
 returns : tie.Need-returns
 unfolding start
@@ -24,10 +30,10 @@ words-of-requires : tie.Need-words-of-requires
 words-of-requires c κs = search needs
 
 mul-result-2 : tie.Need-mul-result-2
-mul-result-2 c = search needs
+mul-result-2 c = omega (arith, small c)
 
 add-result-2 : tie.Need-add-result-2
-add-result-2 c = search needs
+add-result-2 c = omega (arith, small c)
 
 returns-2 : tie.Need-returns-2
 unfolding start

@@ -5,11 +5,11 @@ use Prim.Native.Nat.{suc, _-_, _≤_}
 use native.Mathlib.Nat.{sub-zero}
 use lib.Dec.{eqb}
 use borrow.Author.Tests.{eq-eqb, ne-eqb}
-use Rattle.bitmap.specs.Search.{all}
-use Rattle.bitmap.proofs.Search.{all-stop, all-on, all-end}
-use Rattle.image.specs.Levels.{count}
+use Rattle.words.specs.Search.{all}
+use Rattle.words.proofs.Search.{all-stop, all-on, all-end}
+use Rattle.words.specs.Place.{count}
 use Rattle.image.specs.Reading.{countIn, counted}
-use Rattle.image.proofs.Depths.{start-le, start-more}
+use Rattle.image.proofs.Starts.{start-le, start-more}
 use Rattle.image.proofs.ImageParts.{count-read}
 use native.Mathlib.Omega.{arith}
 use Rattle.image.proofs.sections.counts_right.Statement.{statement}

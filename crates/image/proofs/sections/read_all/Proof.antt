@@ -5,10 +5,10 @@ use mathlib.Core.Path.{_≡_}
 use mathlib.Core.List.{List}
 use Prim.Native.Nat.{ℕ, suc, _+_, _-_, _*_, _<_, _≤_}
 use lib.ListN.{length}
-use Rattle.bitmap.proofs.Levels.{words-small}
-use Rattle.image.specs.Levels.{count}
+use Rattle.words.proofs.Levels.{words-small}
+use Rattle.words.specs.Place.{count}
 use Rattle.image.specs.Reading.{wordIn, mapOf}
-use Rattle.image.proofs.Depths.{start-le, start-more}
+use Rattle.image.proofs.Starts.{start-le, start-more}
 use Rattle.image.proofs.ImageParts.{word-read}
 use Rattle.image.proofs.Filling.{Filled, fill-start, fill-turn, fill-next, fill-end}
 use native.Mathlib.Omega.{arith}
@@ -77,18 +77,18 @@ add-word-at c = omega (arith, turn c)
 word-at-requires : tie.Need-word-at-requires Inv-loop2 μ-loop2 Inv-loop μ-loop
 word-at-requires c κs = turn c .1
 
-place-of-requires : tie.Need-place-of-requires Inv-loop2 μ-loop2 Inv-loop μ-loop
-place-of-requires c κs = (omega (arith, entered (c .before)), omega (arith, entered (c .before)), turn (c .before) .0)
+word-place-requires : tie.Need-word-place-requires Inv-loop2 μ-loop2 Inv-loop μ-loop
+word-place-requires c κs = (omega (arith, entered (c .before)), omega (arith, entered (c .before)), turn (c .before) .0)
 
 mul-target : tie.Need-mul-target Inv-loop2 μ-loop2 Inv-loop μ-loop
 mul-target c =
     let s = start (c .before .before) in
-    omega (arith, c .place-of .ensures, words-small (s .args .k) (s .pre .0))
+    omega (arith, c .word-place .ensures, words-small (s .args .k) (s .pre .0))
 
 slice-write-target : tie.Need-slice-write-target Inv-loop2 μ-loop2 Inv-loop μ-loop
 slice-write-target c =
     let h = filled (c .before .before .before) in
-    omega (arith, c .place-of .ensures, h .room, h .len)
+    omega (arith, c .word-place .ensures, h .room, h .len)
 
 add-j : tie.Need-add-j Inv-loop2 μ-loop2 Inv-loop μ-loop
 add-j c = omega (arith, turn (c .before .before))
@@ -99,7 +99,7 @@ loop2-less c = omega (arith, turn (c .before .before))
 loop2-again : tie.Need-loop2-again Inv-loop2 μ-loop2 Inv-loop μ-loop
 loop2-again c =
     let x = c .before .before in
-    (omega (arith, turn x), λ t h. fill-turn (x .before .loop2 .inv .1 t h) (entered x) (turn x .0) (c .place-of .ensures .0) (read (c .before)))
+    (omega (arith, turn x), λ t h. fill-turn (x .before .loop2 .inv .1 t h) (entered x) (turn x .0) (c .word-place .ensures .0) (read (c .before)))
 
 add-d : tie.Need-add-d Inv-loop2 μ-loop2 Inv-loop μ-loop
 add-d c = omega arith
@@ -135,7 +135,7 @@ read-all-spec =
     mul-word-at
     add-word-at
     word-at-requires
-    place-of-requires
+    word-place-requires
     mul-target
     slice-write-target
     add-j

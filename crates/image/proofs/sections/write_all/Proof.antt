@@ -4,7 +4,7 @@ use mathlib.Core.Path.{_≡_, refl, sym, _∙_}
 use Prim.Native.Nat.{suc, _-_, _≤_}
 use lib.ListN.{length}
 use Rattle.image.specs.Bytes.{written}
-use Rattle.image.proofs.Depths.{start-le}
+use Rattle.image.proofs.Starts.{start-le}
 use Rattle.image.proofs.ImageParts.{begun, begun-written, image-written, none-written}
 use native.Mathlib.Omega.{arith}
 use Rattle.image.proofs.sections.write_all.Statement.{statement}

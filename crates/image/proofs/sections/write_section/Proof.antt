@@ -3,20 +3,21 @@
 use mathlib.Core.Path.{_≡_, refl, sym, ap, _∙_}
 use Prim.Native.Nat.{ℕ, suc, _+_, _-_, _*_, _<_, _≤_}
 use lib.ListN.{length, take, getD}
-use Rattle.bitmap.proofs.Levels.{words-small}
+use Rattle.words.proofs.Levels.{words-small}
 use Rattle.image.specs.Bytes.{wordBytes, written}
-use Rattle.image.specs.Levels.{count, levelWords}
+use Rattle.words.specs.Place.{count}
+use Rattle.image.specs.Depths.{depthWords}
 use Rattle.image.specs.Image.{section}
 use Rattle.image.proofs.Numbers.{written-none}
-use Rattle.image.proofs.Depths.{start-more, start-small}
-use Rattle.image.proofs.Places.{length-level, level-at}
+use Rattle.image.proofs.Starts.{start-more, start-small}
+use Rattle.image.proofs.InDepth.{length-depth, depth-at}
 use Rattle.image.proofs.ImageParts.{word-written, section-written}
 use native.Mathlib.Omega.{arith}
 use Rattle.image.proofs.sections.write_section.Statement.{statement}
 use Rattle.image.proofs.sections.write_section.Tie as tie
 
 abbrev Inv-loop : tie.InvT-loop
-Inv-loop k d s target₀ n from j₀ target j = (j ≤ n) × (length target ≡ length target₀) × (target ≡ written (from + 4) (wordBytes (take j (levelWords k d s))) target₀)
+Inv-loop k d s target₀ n from j₀ target j = (j ≤ n) × (length target ≡ length target₀) × (target ≡ written (from + 4) (wordBytes (take j (depthWords k d s))) target₀)
 
 abbrev μ-loop : tie.MeasureT-loop
 μ-loop k d s target₀ n from j₀ target j = n - j
@@ -52,8 +53,8 @@ loop-holds : tie.Need-loop-holds Inv-loop μ-loop
 unfolding wordBytes
 loop-holds c = (omega arith, refl, sym (written-none _ _))
 
-place-of-requires : tie.Need-place-of-requires Inv-loop μ-loop
-place-of-requires c κs =
+word-place-requires : tie.Need-word-place-requires Inv-loop μ-loop
+word-place-requires c κs =
     let s = start c in
     (s .pre .0, s .pre .1, turn c .0)
 
@@ -88,13 +89,13 @@ loop-again c =
     let x = before c in
     let a = start x .args in
     let l = x .before .loop in
-    let ws = levelWords (a .k) (a .d) (a .s .now) in
-    let n = length-level (a .k) (a .d) (a .s .now) (start x .pre .1) in
+    let ws = depthWords (a .k) (a .d) (a .s .now) in
+    let n = length-depth (a .k) (a .d) (a .s .now) (start x .pre .1) in
     let from = x .before .before .before .before .before .before .start-of .result in
     let first = x .before .before .before .before .put-count .last .0 in
-    let read : getD (a .s .now) (c .before .before .before .before .before .place-of .result) 0 ≡ getD ws (l .j) 0 =
-    ap (λ (p : ℕ). getD (a .s .now) p 0) (c .before .before .before .before .before .place-of .ensures .0)
-    ∙ sym (level-at (a .k - a .d) (a .d) (a .k) (l .j) (a .s .now) (omega (arith, start x .pre)) (turn x .0)) in (
+    let read : getD (a .s .now) (c .before .before .before .before .before .word-place .result) 0 ≡ getD ws (l .j) 0 =
+    ap (λ (p : ℕ). getD (a .s .now) p 0) (c .before .before .before .before .before .word-place .ensures .0)
+    ∙ sym (depth-at (a .k - a .d) (a .d) (a .k) (l .j) (a .s .now) (omega (arith, start x .pre)) (turn x .0)) in (
       omega (arith, turn x),
       c .before .before .put-word .kept .0 ∙ l .inv .1,
       c .before .before .put-word .ensures ∙ word-written (from + 4) (l .j) ws first (l .target) _ (omega (arith, turn x)) (omega (arith, turn x, l .inv .1)) (l .inv .2) read,
@@ -109,10 +110,10 @@ returns c =
     let n = c .before .before .before .before .before .before .before .count-of in
     let from = c .before .before .before .before .before .before .start-of in
     let put = c .before .before .before .before .put-count in
-    let ws = levelWords (s .args .k) (s .args .d) (s .args .s .now) in
+    let ws = depthWords (s .args .k) (s .args .d) (s .args .s .now) in
     c .before .loop .inv .2
     ∙ section-written (from .result) (n .result) (c .before .loop .j) ws (s .args .target .now) _ (omega arith)
-    (n .ensures .0 ∙ sym (length-level (s .args .k) (s .args .d) (s .args .s .now) (s .pre .1)))
+    (n .ensures .0 ∙ sym (length-depth (s .args .k) (s .args .d) (s .args .s .now) (s .pre .1)))
     (put .ensures) (omega (arith, s .pre, from .ensures, start-more (s .args .d)))
     ∙ ap (λ (x : ℕ). written x (section ws) (s .args .target .now)) (from .ensures .0)
 
@@ -126,7 +127,7 @@ write-section-spec =
     start-of-requires
     put-count-requires
     loop-holds
-    place-of-requires
+    word-place-requires
     mul-w
     shared-slice-read-w
     add-put-word

@@ -1,7 +1,7 @@
 -- `lines::table::answer` meets its contract: each arm is its case of the table. Assumes nothing.
 use mathlib.Core.Path.{refl, ap, _∙_}
 use native.Mathlib.Omega.{arith}
-use Rattle.bitmap.specs.Tree.{words, cap}
+use Rattle.words.specs.Sizes.{words, cap}
 use Rattle.lines.specs.Reply.{place, done, yes, replies, afters}
 use Rattle.lines.proofs.Cases.{case-at, case-past, up}
 use borrow.Author.Needs.{needs}
