@@ -7,11 +7,10 @@ use native.Mathlib.Omega.{arith}
 use lib.ListN.{length}
 use lib.Dec.{leb}
 use borrow.Author.Tests.{lt-leb}
-use Rattle.bitmap.specs.Answer.{Said, given, refused, refuse}
+use Rattle.bitmap.specs.Answer.{Said, refused, refuse}
 use Rattle.words.specs.Sizes.{words, levelOf}
-use Rattle.bitmap.specs.Calls.{answer, after, settle}
+use Rattle.bitmap.specs.Calls.{answer, after}
 use Rattle.words.proofs.Levels.{words-level}
-use Rattle.bitmap.proofs.Refusals.{settle-no, settle-on}
 
 module _ (s : List ℕ) (k : ℕ) (is : (k ≡ levelOf (length s)) × (k ≤ 7)) where
   -- no level: refusal 1, and the words stay
@@ -42,15 +41,6 @@ module _ (s : List ℕ) (k : ℕ) (is : (k ≡ levelOf (length s)) × (k ≤ 7))
     pub after-at : (f : ℕ → List ℕ → List ℕ) → f k s ≡ after f s
     unfolding after
     after-at f = sym (rw (lt-leb 7 (levelOf (length s)) (omega arith)) (ap (λ (n : ℕ). f n s) (sym (is .0))))
-
-    -- a call that settles: a refusal leaves the words as lent, and a value is made into words
-    module _ (f : ℕ → List ℕ → Said) (made : ℕ → List ℕ → ℕ → List ℕ) where
-      refused-at : (n : ℕ) → refused n ≡ f k s → (refused n ≡ answer f s) × (s ≡ after (λ k s. settle (f k s) s (made k s)) s)
-      refused-at n e = (e ∙ answer-at f, settle-no (f k s) n s (made k s) e ∙ after-at (λ k s. settle (f k s) s (made k s)))
-
-      given-at : (v : ℕ) (t : List ℕ) → given v ≡ f k s → t ≡ made k s v
-          → (given v ≡ answer f s) × (t ≡ after (λ k s. settle (f k s) s (made k s)) s)
-      given-at v t e h = (e ∙ answer-at f, h ∙ settle-on (f k s) v s (made k s) e ∙ after-at (λ k s. settle (f k s) s (made k s)))
 
 -- the same, where the level was found to be k
 module _ (s : List ℕ) {j : ℕ} (is : (j ≡ levelOf (length s)) × (j ≤ 7)) (ne : j ≡ 7 → ⊥) (k : ℕ) (e : j ≡ k) where

@@ -1,6 +1,8 @@
 -- What documents 01 and 02 say of each case of each answer: its numbers and values. Definitions only.
 use Prim.Native.Nat.{ℕ}
-use mathlib.Core.Bool.{Bool, true, false}
+use mathlib.Core.Bool.{Bool, true, false, _||_}
+use mathlib.Core.List.{List, [], _∷_}
+use lib.Dec.{eqb}
 use Rattle.bitmap.specs.declared.answers.Refusal.{Refusal}
 use Rattle.bitmap.specs.declared.answers.Refusal.the-variants.{WordCount, PastEnd, NoSize, Alignment, NoneFree, AlreadyFree, Untrue, BadImage, TooShort, BadLine, NoAllowance, BookFull, NoLease, BadBook, NoHolder, BadRun, Overlap, BlockSize}
 use Rattle.bitmap.specs.declared.answers.Taken.{Taken}
@@ -56,3 +58,8 @@ told (Y.No r) = refused (number r)
 abbrev pub refuse : ℕ → Bool → Said → Said
 refuse n true rest = refused n
 refuse n false rest = rest
+
+-- n is one of the numbers
+abbrev pub among : ℕ → List ℕ → Bool
+among n [] = false
+among n (m ∷ ms) = eqb n m || among n ms

@@ -8,4 +8,5 @@ pub mod Filling
 pub mod Refused
 pub mod RoundTrip
 pub mod Theorems
+pub mod Contracts
 pub mod OneAnswer

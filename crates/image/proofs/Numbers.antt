@@ -9,11 +9,7 @@ use native.Mathlib.Omega.{arith}
 use lib.Arith.{digits-mod}
 use lib.ListN.{length, take, drop, getD, set, length-append, length-take, length-drop, take-append-drop, List·getD-eq-default}
 use lib.Seq.{drop-cons, getD-take, getD-drop, take-add, drop-drop, take-take, take-at, drop-at, take-suc, drop-append-le, take-append-le, sets-eq}
-use Rattle.image.specs.Bytes.{bytesOf, numberOf, wordBytes, part, written}
-
--- each element is a byte
-abbrev pub Bytes : List ℕ → Type 0
-Bytes bs = (i : ℕ) → getD bs i 0 < 256
+use Rattle.image.specs.Bytes.{Bytes, bytesOf, numberOf, wordBytes, part, written}
 
 -- ---- parts
 

@@ -11,15 +11,14 @@ use lib.ListN.{length, take, getD, List·getD-eq-default}
 use lib.Seq.{take-add, take-all, take-at, ext-getD}
 use borrow.Author.Tests.{eq-eqb, eqb-true}
 use Rattle.words.specs.Sizes.{words}
-use Rattle.words.specs.Tree.{row}
+use Rattle.words.specs.Tree.{Fits, row}
 use Rattle.words.proofs.Search.{all-at, all-is}
-use Rattle.words.proofs.Truth.{Fits}
-use Rattle.image.specs.Bytes.{bytesOf, numberOf, wordBytes, part}
+use Rattle.image.specs.Bytes.{Bytes, bytesOf, numberOf, wordBytes, part}
 use Rattle.words.specs.Place.{count, place}
 use Rattle.image.specs.Depths.{depthWords}
 use Rattle.image.specs.Image.{section, opening, image, start, imageLength}
 use Rattle.image.specs.Reading.{countIn, counted, wordIn, mapOf}
-use Rattle.image.proofs.Numbers.{Bytes, part-before, part-after, part-add, part-part, length-bytes, number-bytes, bytes-read, number-two, words-part, words-read}
+use Rattle.image.proofs.Numbers.{part-before, part-after, part-add, part-part, length-bytes, number-bytes, bytes-read, number-two, words-part, words-read}
 use Rattle.words.proofs.Places.{count-small}
 use Rattle.image.proofs.Starts.{start-more, start-le}
 use Rattle.image.proofs.InDepth.{length-depth, depth-at, length-map, map-top, placed}

@@ -11,20 +11,19 @@ use lib.Dec.{leb, ltb}
 use lib.ListN.{length, take}
 use borrow.Author.Tests.{leb-false, ltb-false, not-false}
 use Rattle.words.specs.Sizes.{words, levelOf}
-use Rattle.words.specs.Tree.{true?}
-use Rattle.bitmap.specs.Answer.{given, refused}
+use Rattle.words.specs.Tree.{Fits, true?}
+use Rattle.bitmap.specs.Answer.{given, refused, among}
 use Rattle.bitmap.specs.Calls.{answer}
 use Rattle.bitmap.specs.Maps.{TrueMap}
 use Rattle.words.proofs.Levels.{level-words, words-level}
 use Rattle.words.proofs.Tests.{none-of}
-use Rattle.words.proofs.Truth.{Fits}
-use Rattle.bitmap.proofs.Refusals.{given-on, settle-no, settle-on}
-use Rattle.image.specs.Bytes.{written}
+use Rattle.bitmap.proofs.Refusals.{given-on, settle-no, settle-on, refused-among, given-among}
+use Rattle.image.specs.Bytes.{Bytes, written}
 use Rattle.words.specs.Place.{count}
 use Rattle.image.specs.Image.{image, start, imageLength, imageLevel}
-use Rattle.image.specs.Reading.{wordIn, counted, mapOf}
-use Rattle.image.specs.Calls.{writeMap, writeSays, writeAfter, readSays, readAfter}
-use Rattle.image.proofs.Numbers.{Bytes, take-written}
+use Rattle.image.specs.Reading.{wordIn, counted, mapOf, Accepted}
+use Rattle.image.specs.Calls.{writeMap, writeSays, writeAfter, writeRefusals, readSays, readAfter, readRefusals}
+use Rattle.image.proofs.Numbers.{take-written}
 use Rattle.image.proofs.Starts.{level-length, length-level}
 use Rattle.image.proofs.InDepth.{length-map}
 use Rattle.image.proofs.ImageParts.{length-image}
@@ -45,6 +44,24 @@ write-refused s t n e = sym (settle-no (writeSays s t) n t (λ _. written 0 (ima
 
 pub read-refused : (bytes t : List ℕ) (n : ℕ) → readSays bytes t ≡ refused n → readAfter bytes t ≡ t
 read-refused bytes t n e = sym (settle-no (readSays bytes t) n t (λ _. written 0 (mapOf (imageLevel (length bytes)) bytes) t) (sym e))
+
+-- ---- and it is one of the call's refusals
+
+pub write-refusals : (s t : List ℕ) (n : ℕ) → writeSays s t ≡ refused n → among n writeRefusals ≡ true
+unfolding answer
+write-refusals s t n =
+    let k = levelOf (length s) in
+    let size = imageLength k in
+    refused-among n writeRefusals 1 (leb 7 k) _ refl
+    (refused-among n writeRefusals 7 (not (true? k s)) _ refl
+    (refused-among n writeRefusals 9 (ltb (length t) size) (given size) refl (given-among n writeRefusals size)))
+
+pub read-refusals : (bytes t : List ℕ) (n : ℕ) → readSays bytes t ≡ refused n → among n readRefusals ≡ true
+read-refusals bytes t n =
+    let k = imageLevel (length bytes) in
+    refused-among n readRefusals 8 (leb 7 k || not (counted k bytes)) _ refl
+    (refused-among n readRefusals 9 (ltb (length t) (words k)) _ refl
+    (refused-among n readRefusals 7 (not (true? k (mapOf k bytes))) (given (suc k)) refl (given-among n readRefusals (suc k))))
 
 -- ---- what an answer that is no refusal tells
 
@@ -113,12 +130,6 @@ image-read k s t lt m room =
     (sym (ap given (sym (add-one k)) ∙ done .0), sym (done .1))
 
 -- ---- what is accepted is the image of a true map, and of no other
-
-pub record Accepted (bytes : List ℕ) (k : ℕ) (s : List ℕ) : Type 0 where
-  pub level : k < 7
-  pub map : TrueMap k s
-  pub is : image k s ≡ bytes
-  pub only : (k′ : ℕ) (s′ : List ℕ) → k′ < 7 → TrueMap k′ s′ → image k′ s′ ≡ bytes → (k′ ≡ k) × (s′ ≡ s)
 
 pub accepted : (bytes t : List ℕ) (n : ℕ) → Bytes bytes → readSays bytes t ≡ given n
     → Accepted bytes (imageLevel (length bytes)) (mapOf (imageLevel (length bytes)) bytes)

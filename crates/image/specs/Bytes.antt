@@ -1,7 +1,11 @@
 -- Numbers and words as bytes, lowest byte first, and a part of a list and a list written into another. Definitions only.
-use Prim.Native.Nat.{ℕ, zero, suc, _+_, _*_, _/_, _%_}
+use Prim.Native.Nat.{ℕ, zero, suc, _+_, _*_, _/_, _%_, _<_}
 use mathlib.Core.List.{List, [], _∷_, _++_}
-use lib.ListN.{length, take, drop}
+use lib.ListN.{length, getD, take, drop}
+
+-- each element is a byte
+abbrev pub Bytes : List ℕ → Type 0
+Bytes bs = (i : ℕ) → getD bs i 0 < 256
 
 -- the n lowest bytes of v
 unfoldable pub bytesOf : ℕ → ℕ → List ℕ

@@ -1,7 +1,7 @@
 -- What the two calls say and what they make of the target, for every input. Definitions only.
 use Prim.Native.Nat.{ℕ, suc}
 use mathlib.Core.Bool.{not, _||_}
-use mathlib.Core.List.{List}
+use mathlib.Core.List.{List, [], _∷_}
 use lib.Dec.{leb, ltb}
 use lib.ListN.{length}
 use Rattle.words.specs.Sizes.{words, levelOf}
@@ -26,6 +26,10 @@ writeSays s t = answer (writeMap t) s
 abbrev pub writeAfter : List ℕ → List ℕ → List ℕ
 writeAfter s t = settle (writeSays s t) t (λ _. written 0 (image (levelOf (length s)) s) t)
 
+-- the refusals that it gives
+abbrev pub writeRefusals : List ℕ
+writeRefusals = 1 ∷ 7 ∷ 9 ∷ []
+
 -- ---- read
 
 -- of bytes that have the length of an image of a map of level k, where k is below 7; for a target t
@@ -43,3 +47,7 @@ readSays bytes t = readMap t (imageLevel (length bytes)) bytes
 -- the words of the target after it
 abbrev pub readAfter : List ℕ → List ℕ → List ℕ
 readAfter bytes t = settle (readSays bytes t) t (λ _. written 0 (mapOf (imageLevel (length bytes)) bytes) t)
+
+-- the refusals that it gives
+abbrev pub readRefusals : List ℕ
+readRefusals = 7 ∷ 8 ∷ 9 ∷ []

@@ -1,5 +1,6 @@
 -- What bytes say, read as an image of a map of level k. Definitions only.
-use Prim.Native.Nat.{ℕ, zero, suc, _+_, _*_, _/_, _%_}
+use Prim.Native.Nat.{ℕ, zero, suc, _+_, _*_, _/_, _%_, _<_}
+use mathlib.Core.Path.{_≡_}
 use mathlib.Core.Bool.{Bool}
 use mathlib.Core.List.{List, [], _∷_}
 use lib.Dec.{eqb}
@@ -8,7 +9,8 @@ use Rattle.words.specs.Bits.{bit, some}
 use Rattle.words.specs.Tree.{same, node}
 use Rattle.image.specs.Bytes.{numberOf, part}
 use Rattle.words.specs.Place.{count}
-use Rattle.image.specs.Image.{start}
+use Rattle.bitmap.specs.Maps.{TrueMap}
+use Rattle.image.specs.Image.{start, image}
 
 -- the word count of the section of depth d
 unfoldable pub countIn : List ℕ → ℕ → ℕ
@@ -39,3 +41,10 @@ wordTrue f d m = same (bit (f d (m / 16)) (m % 16)) (some (f (suc d) m))
 -- that is so of each word below the depth d
 unfoldable pub depthTrue : (ℕ → ℕ → ℕ) → ℕ → Bool
 depthTrue f d = all (wordTrue f d) 0 (count (suc d))
+
+-- bytes are the image of the true map s of level k, and of no other true map
+pub record Accepted (bytes : List ℕ) (k : ℕ) (s : List ℕ) : Type 0 where
+  pub level : k < 7
+  pub map : TrueMap k s
+  pub is : image k s ≡ bytes
+  pub only : (k′ : ℕ) (s′ : List ℕ) → k′ < 7 → TrueMap k′ s′ → image k′ s′ ≡ bytes → (k′ ≡ k) × (s′ ≡ s)

@@ -17,7 +17,7 @@ use Rattle.bitmap.specs.declared.base.Base.the-variants.{Any, At}
 use Rattle.words.specs.Search.{firstFrom}
 use Rattle.words.specs.Bits.{digit, within}
 use Rattle.words.specs.Sizes.{cap, levelOf}
-use Rattle.words.specs.Tree.{own, leaf?, free?, true?}
+use Rattle.words.specs.Tree.{Fits, own, leaf?, free?, true?}
 use Rattle.change.specs.Change.{change}
 use Rattle.change.specs.GiveBack.{firstLeaf, giveBack}
 use Rattle.bitmap.specs.Answer.{Said, given, refused, refuse}
@@ -26,7 +26,7 @@ use Rattle.words.proofs.Tests.{sort, none-of}
 use Rattle.words.proofs.Search.{first-is}
 use Rattle.words.proofs.Levels.{words-level}
 use Rattle.bitmap.proofs.Refusals.{given-on}
-use Rattle.words.proofs.Truth.{Fits, free-leaf}
+use Rattle.words.proofs.Truth.{free-leaf}
 use Rattle.change.proofs.Changes.{length-change}
 use Rattle.laws.proofs.Effects.{free-change, true-change, fits-change}
 use Rattle.look.proofs.LowestFree.{firstFree, free-none, free-some, lowest-free}
@@ -34,17 +34,9 @@ use Rattle.change.proofs.GiveBacks.{length-giveBack}
 use Rattle.laws.proofs.FreedRun.{freedTo, first-free, free-giveBack, true-giveBack, fits-giveBack}
 use Rattle.bitmap.proofs.Stores.{answer-at, after-at}
 use Rattle.laws.specs.Call.{Call, alloc, allocContiguous, next, dealloc, deallocContiguous, deallocContiguousOld, insert, remove, isEmpty, test, check, callSays, callAfter}
-use Rattle.laws.specs.Sets.{Positions, with, without, range, found, lowestFrom, runGiven, freedUpTo, setSays, setAfter, settled}
-use Rattle.bitmap.specs.Maps.{TrueMap, TrueStore, freeIn, positions}
-
--- the call c on the map s of k levels below its own word is the call on F
-pub record AsSet (c : Call) (k : ℕ) (s : List ℕ) : Type 0 where
-  -- the answer is the one of the set
-  pub says : callSays c k s ≡ setSays c (free? k s) (cap k)
-  -- F afterwards is the set afterwards
-  pub leaves : (p : ℕ) → p < cap k → free? k (callAfter c k s) p ≡ setAfter c (free? k s) (cap k) p
-  -- the map is true again
-  pub again : TrueMap k (callAfter c k s)
+use Rattle.laws.specs.Sets.{Positions, with, without, range, found, lowestFrom, runGiven, freedUpTo, setSays, settled}
+use Rattle.laws.specs.AsSet.{AsSet, StoreAsSet}
+use Rattle.bitmap.specs.Maps.{TrueMap, TrueStore}
 
 -- ---- answers that agree as far as they are asked
 
@@ -251,16 +243,6 @@ as-set (test key) k s m = test-set k s m key
 as-set check k s m = check-set k s m
 
 -- ---- the same of lent stores
-
--- the call c on the lent store s is the call on its F
-pub record StoreAsSet (c : Call) (s : List ℕ) : Type 0 where
-  -- the answer is the one of the set
-  pub says : answer (callSays c) s ≡ setSays c (freeIn s) (positions s)
-  -- F afterwards is the set afterwards
-  pub leaves : (p : ℕ) → p < positions s → freeIn (after (callAfter c) s) p ≡ setAfter c (freeIn s) (positions s) p
-  -- the store is a true map again, of as many words
-  pub again : TrueStore (after (callAfter c) s)
-  pub size : length (after (callAfter c) s) ≡ length s
 
 -- a call on a store of a level is the one on the map
 module _ (s : List ℕ) (h : levelOf (length s) < 7) where

@@ -11,7 +11,7 @@ use borrow.Author.Tests.{ltb-false}
 use Rattle.words.specs.declared.kind.Change.{Change}
 use Rattle.words.specs.Bits.{bit, within, some, frees}
 use Rattle.words.specs.Sizes.{words, cap}
-use Rattle.words.specs.Tree.{own, child, row, node, leaf?, free?, true?}
+use Rattle.words.specs.Tree.{Fits, own, child, row, node, leaf?, free?, true?}
 use Rattle.change.specs.Renew.{replaced, renew}
 use Rattle.change.specs.Change.{low, high, visits, change}
 use Rattle.words.proofs.Tests.{sort}
@@ -23,7 +23,7 @@ use Rattle.change.proofs.Spans.{within-child}
 use Rattle.change.proofs.Renewed.{replaced-in, replaced-out, child-renew, bit-renew, marked-lt}
 use Rattle.change.proofs.Changes.{length-change}
 use Rattle.words.proofs.Path.{position-child}
-use Rattle.words.proofs.Truth.{Fits, fits-child, true-is, is-true, free-leaf}
+use Rattle.words.proofs.Truth.{fits-child, true-is, is-true, free-leaf}
 
 -- ---- a renewal
 

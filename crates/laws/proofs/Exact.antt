@@ -1,32 +1,29 @@
 -- What the words of a true map say: F is its leaf bits, `is_empty` says that F is empty, `check` says that the map is true, a set has one
 -- true map, and a true map is never refused with 7. Assumes nothing.
 use mathlib.Core.Path.{_≡_, refl, sym, ap, _∙_}
-use mathlib.Core.Bool.{Bool, true, false, not, _||_, true≢false}
+use mathlib.Core.Bool.{Bool, true, false, not, true≢false}
 use mathlib.Core.Logic.{_↔_, _≢_, ⊎-elim}
-use mathlib.Core.List.{List}
-use Prim.Native.Nat.{ℕ, zero, suc, _+_, _<_}
+use mathlib.Core.List.{List, [], _∷_}
+use Prim.Native.Nat.{ℕ, zero, suc, _<_}
 use native.Mathlib.Decide.{ℕ-discrete}
 use native.Mathlib.Omega.{arith}
-use lib.Dec.{eqb, leb, ltb}
+use lib.Dec.{eqb, leb}
 use lib.ListN.{length}
 use borrow.Author.Tests.{eq-eqb, ne-eqb, eqb-true, leb-false}
-use Rattle.bitmap.specs.declared.base.Base.the-variants.{Any, At}
-use Rattle.words.specs.Search.{firstFrom}
 use Rattle.words.specs.Bits.{bit, digit, some}
 use Rattle.words.specs.Sizes.{cap, levelOf}
 use Rattle.words.specs.Tree.{own, child, leaf?, free?, true?}
-use Rattle.words.specs.Run.{aligned, run?, runIn, misfit}
-use Rattle.bitmap.specs.Answer.{Said, given, refused, refuse}
+use Rattle.bitmap.specs.Answer.{Said, given, refused}
 use Rattle.bitmap.specs.Calls.{answer, emptySays, checkSays}
 use Rattle.words.proofs.Tests.{sort}
-use Rattle.bitmap.proofs.Refusals.{given-on}
+use Rattle.bitmap.proofs.Refusals.{given-on, refused-among, given-among}
 use Rattle.words.proofs.Truth.{some-no, true-is, is-true, live, own-none, free-leaf}
 use Rattle.laws.proofs.OneMap.{one-free}
 use Rattle.laws.specs.Call.{Call, alloc, allocContiguous, next, dealloc, deallocContiguous, deallocContiguousOld, insert, remove, isEmpty, test, check, callSays}
-use Rattle.laws.specs.Sets.{Positions, found, lowestFrom, range, runGiven, setSays}
+use Rattle.laws.specs.Sets.{lowestFrom}
+use Rattle.laws.proofs.Refused.{says-among}
 use Rattle.bitmap.specs.Maps.{Truthful, TrueMap, TrueStore, freeIn, positions}
-use Rattle.laws.proofs.AsSets.{as-set, map-of, answer-level, store-as-set}
-use Rattle.bitmap.proofs.Numbered.{apart}
+use Rattle.laws.proofs.AsSets.{as-set, map-of, answer-level}
 
 -- In a true map F is the set of leaf bits.
 pub free-is-leaf : (k : ℕ) (s : List ℕ) → TrueMap k s → (p : ℕ) → p < cap k → free? k s p ≡ leaf? k s p
@@ -105,52 +102,23 @@ store-check-exactly s =
 
 -- ---- refusal 7
 
--- a refusal that is not 7, before a rest that is not refused with 7
-on-seven : (n : ℕ) (b : Bool) (rest : Said) → n ≢ 7 → (rest ≡ refused 7 → ⊥) → refuse n b rest ≡ refused 7 → ⊥
-on-seven n true rest ne h e = ne (cc)
-on-seven n false rest ne h e = h e
-
-found-seven : (n p : ℕ) → found n p ≡ refused 7 → ⊥
-found-seven n p = on-seven 5 (leb n p) (given p) (omega arith) (apart p 7)
-
-range-seven : (n a b : ℕ) (rest : Said) → (rest ≡ refused 7 → ⊥) → range n a b rest ≡ refused 7 → ⊥
-range-seven n a b rest h =
-    on-seven 2 (ltb b a || ltb n b) (refuse 3 (eqb a b) rest) (omega arith) (on-seven 3 (eqb a b) rest (omega arith) h)
-
-given-seven : (f : Positions) (n base size : ℕ) → runGiven f n base size ≡ refused 7 → ⊥
-given-seven f n base size =
-    let met = ltb (firstFrom f base size) (base + size) in
-    range-seven n base (base + size) (refuse 6 met (given 0)) (on-seven 6 met (given 0) (omega arith) (apart 0 7))
-
--- no call on a set is refused with 7
-set-seven : (c : Call) (f : Positions) (n : ℕ) → setSays c f n ≡ refused 7 → ⊥
-set-seven alloc f n = found-seven n (lowestFrom f n 0)
-set-seven (allocContiguous Any size align) f n =
-    let found-run = found n (runIn f n size align) in
-    on-seven 4 (misfit n align) (refuse 3 (eqb size 0) found-run) (omega arith)
-    (on-seven 3 (eqb size 0) found-run (omega arith) (found-seven n (runIn f n size align)))
-set-seven (allocContiguous (At b) size align) f n =
-    let here = refuse 5 (not (run? f n size align b)) (given b) in
-    let inside = refuse 2 (ltb n (b + size)) here in
-    on-seven 4 (misfit n align || not (aligned align b)) (refuse 3 (eqb size 0) inside) (omega arith)
-    (on-seven 3 (eqb size 0) inside (omega arith)
-    (on-seven 2 (ltb n (b + size)) here (omega arith)
-    (on-seven 5 (not (run? f n size align b)) (given b) (omega arith) (apart b 7))))
-set-seven (next key) f n = found-seven n (lowestFrom f n key)
-set-seven (dealloc key) f n =
-    on-seven 2 (leb n key) (refuse 6 (f key) (given 0)) (omega arith) (on-seven 6 (f key) (given 0) (omega arith) (apart 0 7))
-set-seven (deallocContiguous base size) f n = given-seven f n base size
-set-seven (deallocContiguousOld base size) f n = given-seven f n base size
-set-seven (insert a b) f n = range-seven n a b (given 0) (apart 0 7)
-set-seven (remove a b) f n = range-seven n a b (given 0) (apart 0 7)
-set-seven isEmpty f n = apart (digit (leb n (lowestFrom f n 0))) 7
-set-seven (test key) f n = on-seven 2 (leb n key) (given (digit (f key))) (omega arith) (apart (digit (f key)) 7)
-set-seven check f n = apart 1 7
-
--- No call on a true map is refused with 7.
+-- No call on a true map is refused with 7: a take finds a position or is refused with 5, and 7 is no refusal of another call.
 pub never-untrue : (c : Call) (k : ℕ) (s : List ℕ) → TrueMap k s → callSays c k s ≡ refused 7 → ⊥
-never-untrue c k s m e = set-seven c (free? k s) (cap k) (sym (as-set c k s m .says) ∙ e)
+never-untrue alloc k s m e =
+    let p = lowestFrom (free? k s) (cap k) 0 in
+    let h = sym (as-set alloc k s m .says) ∙ e in
+    true≢false (sym (refused-among 7 (5 ∷ []) 5 (leb (cap k) p) (given p) refl (given-among 7 (5 ∷ []) p) h))
+never-untrue (allocContiguous base size align) k s m e = true≢false (sym (says-among 7 (allocContiguous base size align) k s e))
+never-untrue (next key) k s m e = true≢false (sym (says-among 7 (next key) k s e))
+never-untrue (dealloc key) k s m e = true≢false (sym (says-among 7 (dealloc key) k s e))
+never-untrue (deallocContiguous base size) k s m e = true≢false (sym (says-among 7 (deallocContiguous base size) k s e))
+never-untrue (deallocContiguousOld base size) k s m e = true≢false (sym (says-among 7 (deallocContiguousOld base size) k s e))
+never-untrue (insert a b) k s m e = true≢false (sym (says-among 7 (insert a b) k s e))
+never-untrue (remove a b) k s m e = true≢false (sym (says-among 7 (remove a b) k s e))
+never-untrue isEmpty k s m e = true≢false (sym (says-among 7 isEmpty k s e))
+never-untrue (test key) k s m e = true≢false (sym (says-among 7 (test key) k s e))
+never-untrue check k s m e = true≢false (sym (says-among 7 check k s e))
 
 -- Nor is one on a lent store that is a true map.
 pub store-never-untrue : (c : Call) (s : List ℕ) → TrueStore s → answer (callSays c) s ≡ refused 7 → ⊥
-store-never-untrue c s h e = set-seven c (freeIn s) (positions s) (sym (store-as-set c s h .says) ∙ e)
+store-never-untrue c s h e = never-untrue c (levelOf (length s)) s (map-of s h) (sym (answer-level s (h .level) (callSays c)) ∙ e)

@@ -14,7 +14,7 @@ use Rattle.words.specs.declared.kind.Change.the-variants.{Insert}
 use Rattle.words.specs.Search.{firstFrom}
 use Rattle.words.specs.Bits.{within, some}
 use Rattle.words.specs.Sizes.{words, cap}
-use Rattle.words.specs.Tree.{own, child, leaf?, free?, true?}
+use Rattle.words.specs.Tree.{Fits, own, child, leaf?, free?, true?}
 use Rattle.change.specs.Change.{low, high, visits}
 use Rattle.change.specs.GiveBack.{firstLeaf, giveBack}
 use Rattle.words.proofs.Tests.{sort, and-both}
@@ -25,7 +25,7 @@ use Rattle.words.proofs.Within.{within-yes, within-no, within-iff}
 use Rattle.change.proofs.Spans.{high-le}
 use Rattle.change.proofs.Renewed.{replaced-in, replaced-out}
 use Rattle.words.proofs.Path.{position-child}
-use Rattle.words.proofs.Truth.{Fits, fits-child, true-is, free-leaf}
+use Rattle.words.proofs.Truth.{fits-child, true-is, free-leaf}
 use Rattle.laws.proofs.Effects.{leaf-renew, true-renew, fits-renew, unvisited, leaf-change, fits-change}
 use Rattle.change.proofs.Leaves.{first-leaf, first-part}
 use Rattle.change.proofs.GiveBacks.{gone, sized-gone}

@@ -1,14 +1,18 @@
 -- The theorems: demand 1 (Kept), what changes do to true maps (Effects, FreedRun, OneMap), demand 2 (AsSets, RunsExist, Exact, TwoWays), demand 3 (SetOrder, Order, RunsLast), one answer, P1 to P12.
 pub mod Kept
+pub mod Refused
 pub mod Effects
 pub mod FreedRun
 pub mod OneMap
 pub mod AsSets
 pub mod RunsExist
 pub mod Exact
+pub mod Lowest
 pub mod TwoWays
 pub mod SetOrder
 pub mod Order
 pub mod RunsLast
+pub mod Contracts
+pub mod Exported
 pub mod OneAnswer
 pub mod Examples

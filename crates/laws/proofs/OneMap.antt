@@ -7,11 +7,11 @@ use native.Mathlib.Omega.{arith}
 use lib.ListN.{length}
 use lib.Seq.{ext-getD}
 use Rattle.words.specs.Sizes.{words, cap}
-use Rattle.words.specs.Tree.{own, child, leaf?, free?, true?}
+use Rattle.words.specs.Tree.{Fits, own, child, leaf?, free?, true?}
 use Rattle.words.specs.Bits.{some}
 use Rattle.words.proofs.Bits.{same-bits}
 use Rattle.words.proofs.Rows.{length-child, ext-node}
-use Rattle.words.proofs.Truth.{Fits, fits-child, true-is, free-leaf}
+use Rattle.words.proofs.Truth.{fits-child, true-is, free-leaf}
 use Rattle.words.proofs.Path.{child-position, leaf-in}
 
 -- by their leaf bits

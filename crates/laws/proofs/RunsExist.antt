@@ -1,5 +1,5 @@
 -- An aligned run is refused with 5 exactly when none stands in F; otherwise the lowest is taken, or the one at the base. These hold of
--- every map, true or not. `Run f n size align b` of the law file Runs says that a run stands at b: b is a multiple of 2^align,
+-- every map, true or not. `Run f n size align b` of words/specs/Run.antt says that a run stands at b: b is a multiple of 2^align,
 -- b + size is at most n, and each of b to b + size - 1 is in f. Assumes nothing.
 use mathlib.Core.Path.{_≡_, refl, sym, ap, _∙_}
 use mathlib.Core.Bool.{false, not, true≢false}
@@ -17,14 +17,14 @@ use Rattle.bitmap.specs.declared.base.Base.the-variants.{Any, At}
 use Rattle.words.specs.Sizes.{cap, levelOf}
 use Rattle.words.specs.Tree.{free?}
 use Rattle.change.specs.Change.{change}
-use Rattle.words.specs.Run.{misfit, aligned, run?, runIn}
+use Rattle.words.specs.Run.{Run, misfit, aligned, run?, runIn}
 use Rattle.bitmap.specs.Answer.{given, refused}
 use Rattle.bitmap.specs.Calls.{answer, after, misplaced, runSays, runAfter}
 use Rattle.words.proofs.Tests.{sort, neither}
 use Rattle.words.proofs.Search.{first-is}
 use Rattle.bitmap.proofs.Refusals.{settle-on}
 use Rattle.bitmap.proofs.Numbered.{apart}
-use Rattle.look.proofs.Runs.{Run, run-is, is-run, run-found, run-none}
+use Rattle.look.proofs.Runs.{run-is, is-run, run-found, run-none}
 use Rattle.bitmap.proofs.RunCases.{run-some, any-none, any-found, at-held, at-found}
 use Rattle.laws.specs.Call.{allocContiguous, callSays, callAfter}
 use Rattle.bitmap.specs.Maps.{freeIn, positions}

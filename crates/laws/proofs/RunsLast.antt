@@ -1,12 +1,10 @@
 -- A remark on demand 3: why a request for a run stands only at the end. Assumes nothing.
 use mathlib.Core.Path.{_≡_, refl, sym}
 use mathlib.Core.Bool.{Bool, true, false, not, _||_, true≢false}
-use mathlib.Core.List.{List}
 use Prim.Native.Nat.{ℕ, zero, suc, _^_, _<_}
 use native.Mathlib.Omega.{arith}
 use lib.ListN.{getD, replicate}
 use borrow.Author.Tests.{ltb-true}
-use Rattle.bitmap.specs.declared.base.Base.the-variants.{Any}
 use Rattle.words.specs.Search.{firstFrom, all}
 use Rattle.words.specs.Bits.{bit, pack}
 use Rattle.words.specs.Sizes.{words, cap, levelOf}
@@ -17,20 +15,10 @@ use Rattle.words.specs.Take.{lowest}
 use Rattle.bitmap.specs.Answer.{Said, given}
 use Rattle.bitmap.specs.Calls.{answer, after}
 use Rattle.words.proofs.Search.{all-at}
-use Rattle.laws.specs.Call.{Call, alloc, allocContiguous, callSays, callAfter}
+use Rattle.laws.specs.Call.{alloc, callSays, callAfter}
 use Rattle.bitmap.specs.Maps.{TrueStore, freeIn, positions}
 use Rattle.laws.specs.Order.{Inside, NoHigher, StoresOrdered}
-use Rattle.laws.proofs.Examples.{only}
-
--- P12: free {0, 2, 3} against {0, 1, 2, 3}, and a run of 2
-abbrev pub few : List ℕ
-few = only 0b1101
-
-abbrev pub more : List ℕ
-more = only 0b1111
-
-abbrev pub pair : Call
-pair = allocContiguous Any 2 0
+use Rattle.laws.specs.Examples.{only, few, more, pair}
 
 -- ---- they are true maps, and the first is within the second
 

@@ -1,7 +1,7 @@
 -- The public calls as data, by the definitions that their contracts cite. Definitions only.
 use Prim.Native.Nat.{ℕ}
 use mathlib.Core.Bool.{Bool, false}
-use mathlib.Core.List.{List}
+use mathlib.Core.List.{List, [], _∷_}
 use lib.Dec.{eqb}
 use Rattle.bitmap.specs.declared.base.Base.{Base}
 use Rattle.bitmap.specs.Answer.{Said}
@@ -62,3 +62,17 @@ partly (remove a b) n = false
 partly isEmpty n = false
 partly (test key) n = false
 partly check n = false
+
+-- the refusals that it gives
+abbrev pub refusals : Call → List ℕ
+refusals alloc = 1 ∷ 5 ∷ 7 ∷ []
+refusals (allocContiguous base size align) = 1 ∷ 2 ∷ 3 ∷ 4 ∷ 5 ∷ []
+refusals (next key) = 1 ∷ 5 ∷ []
+refusals (dealloc key) = 1 ∷ 2 ∷ 6 ∷ []
+refusals (deallocContiguous base size) = 1 ∷ 2 ∷ 3 ∷ 6 ∷ []
+refusals (deallocContiguousOld base size) = 1 ∷ 2 ∷ 3 ∷ 6 ∷ []
+refusals (insert a b) = 1 ∷ 2 ∷ 3 ∷ []
+refusals (remove a b) = 1 ∷ 2 ∷ 3 ∷ []
+refusals isEmpty = 1 ∷ []
+refusals (test key) = 1 ∷ 2 ∷ []
+refusals check = 1 ∷ []

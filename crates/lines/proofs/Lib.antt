@@ -7,6 +7,8 @@ pub mod Fields
 pub mod Puts
 pub mod Replies
 pub mod Cases
+pub mod Small
 pub mod Sessions
 pub mod Whole
+pub mod Contracts
 pub mod OneAnswer

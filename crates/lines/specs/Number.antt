@@ -28,6 +28,6 @@ unfoldable pub digits : ℕ → ℕ → List ℕ
 digits zero n = []
 digits (suc k) n = cond (ltb n 10) ((48 + n) ∷ []) (digits k (n / 10) ++ ((48 + n % 10) ∷ []))
 
--- a number below 100,000 as it is printed
+-- a number below 100,000 as it is printed; no reply has one above 65,536 (`reply-small` of proofs/Small.antt)
 abbrev pub decimal : ℕ → List ℕ
 decimal n = digits 5 n

@@ -36,6 +36,15 @@ abbrev pub yes : Said → Reply
 yes (given v) = cond (eqb v 0) Not Yes
 yes (refused n) = No n
 
+-- the number in a reply; 0 where it has none
+abbrev pub numberIn : Reply → ℕ
+numberIn (Map n w) = n
+numberIn (At p) = p
+numberIn Done = 0
+numberIn Yes = 0
+numberIn Not = 0
+numberIn (No n) = n
+
 -- the table of cases, 0 to 15: a line of another form, the four sizes, and the eleven commands on a map s
 unfoldable pub replies : ℕ → ℕ → ℕ → List ℕ → List Reply
 replies a b c s =

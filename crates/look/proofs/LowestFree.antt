@@ -10,13 +10,13 @@ use borrow.Author.Tests.{lt-ltb, le-ltb}
 use Rattle.words.specs.Search.{firstFrom}
 use Rattle.words.specs.Bits.{bit, lowestBit}
 use Rattle.words.specs.Sizes.{cap}
-use Rattle.words.specs.Tree.{own, child, free?, true?}
+use Rattle.words.specs.Tree.{Fits, own, child, free?, true?}
 use Rattle.words.specs.Run.{nextIn}
 use Rattle.words.specs.Take.{lowest}
 use Rattle.words.proofs.Search.{First, first-is, is-first, first-ext}
 use Rattle.words.proofs.Bits.{no-bits}
 use Rattle.look.proofs.Nexts.{next-hit}
-use Rattle.words.proofs.Truth.{Fits, fits-child, some-no, true-is, live, own-some, free-leaf}
+use Rattle.words.proofs.Truth.{fits-child, some-no, true-is, live, own-some, free-leaf}
 
 -- the lowest free position of a map, and its positions where there is none
 abbrev pub firstFree : ℕ → List ℕ → ℕ

@@ -12,7 +12,7 @@ use lib.Dec.{leb, ltb}
 use borrow.Author.Tests.{leb-true, leb-false, ltb-false, le-leb, eqb-true, eq-eqb, not-true, not-false}
 use Rattle.words.specs.Search.{firstFrom, all}
 use Rattle.words.specs.Sizes.{cap}
-use Rattle.words.specs.Run.{nextIn, misfit, aligned, run?, runIn}
+use Rattle.words.specs.Run.{Run, nextIn, misfit, aligned, run?, runIn}
 use Rattle.words.proofs.Search.{First, first-is, first-skip, first-at, first-end, all-at, all-is}
 use Rattle.words.proofs.Tests.{sort, and-both, none-of}
 use Rattle.words.proofs.Levels.{cap-pow}
@@ -54,12 +54,6 @@ fits-align n align e =
     (leb-false 64 align (p .0), ltb-false n (2 ^ align) (p .1))
 
 -- ---- a run
-
--- a run of size positions of the n stands at b: b is a multiple of 2^align, and f holds at each of b to b + size - 1
-pub record Run (f : ℕ → Bool) (n size align b : ℕ) : Type 0 where
-  pub multiple : b % 2 ^ align ≡ 0
-  pub fits : b + size ≤ n
-  pub free : (q : ℕ) → b ≤ q → q < b + size → f q ≡ true
 
 module _ (f : ℕ → Bool) (n size align : ℕ) where
   pub run-is : (b : ℕ) → run? f n size align b ≡ true → Run f n size align b

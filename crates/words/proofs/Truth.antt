@@ -7,13 +7,13 @@ use Prim.Native.Nat.{ℕ, zero, suc, _+_, _*_, _/_, _%_, _^_, _<_}
 use native.Mathlib.Nat.{mod-lt}
 use native.Mathlib.Decide.{decLt, ℕ-discrete}
 use native.Mathlib.Omega.{arith}
-use lib.ListN.{getD, take, drop, length-take, List·getD-eq-default}
+use lib.ListN.{take, drop, length-take, List·getD-eq-default}
 use lib.Seq.{getD-take, getD-drop}
 use lib.Dec.{eqb}
 use borrow.Author.Tests.{eq-eqb, eqb-true, not-false}
 use Rattle.words.specs.Bits.{bit, some, lowestBit}
 use Rattle.words.specs.Sizes.{words, cap}
-use Rattle.words.specs.Tree.{own, child, leaf?, free?, true?}
+use Rattle.words.specs.Tree.{Fits, own, child, leaf?, free?, true?}
 use Rattle.words.proofs.Tests.{sort, and-both, same-is, same-self}
 use Rattle.words.proofs.Search.{first-is, all-at, all-is}
 use Rattle.words.proofs.Bits.{bit-of-zero, no-bits}
@@ -22,11 +22,7 @@ use Rattle.words.proofs.Path.{position-child, child-position, leaf-in}
 
 -- ---- words of 16 bits
 
--- each word is one of 16 bits
-abbrev pub Fits : List ℕ → Type 0
-Fits s = (i : ℕ) → getD s i 0 < 2 ^ 16
-
--- and so is each word of a child
+-- where each word of a map is one of 16 bits, so is each word of a child
 pub fits-child : (k : ℕ) (s : List ℕ) (i : ℕ) → Fits s → Fits (child k s i)
 unfolding child
 fits-child k s i h j = elim (decLt j (words k)) [

@@ -1,13 +1,13 @@
--- `line_io::run` meets its contract: the bytes printed are bytes of the output. Assumes nothing.
+-- `line::main`: the bytes printed are bytes of the output. Assumes nothing.
 use mathlib.Core.Path.{sym, ap, _∙_}
-use Prim.Native.Nat.{ℕ, _≤_}
-use lib.ListN.{length, length-replicate}
+use Prim.Native.Nat.{_≤_}
+use lib.ListN.{length}
 use lib.Seq.{length-take-le}
 use Rattle.lines.specs.Session.{says}
 use Rattle.lines.proofs.Whole.{count-le}
 use borrow.Author.Needs.{needs}
-use Rattle.line_io.proofs.run.Statement.{statement}
-use Rattle.line_io.proofs.run.Tie as tie
+use Rattle.line.proofs.main.Statement.{statement}
+use Rattle.line.proofs.main.Tie as tie
 
 within : (k : tie.After-count) → k .count .given .0 .0 ≤ length (k .before .before .before .before .lines .last .1 .1 .0)
 within k =
@@ -54,16 +54,13 @@ enum-told : tie.Need-enum-told
 enum-told c = search needs
 
 returns : tie.Need-returns
-returns c =
-    let k = c .before .before .before in
-    let d = k .before .before .before .before in
-    rw (d .lines .kept .1 .1 .0 ∙ length-replicate {A = ℕ} 393216 0) at (within k)
+returns c = search needs
 
 returns-2 : tie.Need-returns-2
 returns-2 c = search needs
 
-pub run-spec : {M : Type 1} → statement M
-run-spec =
+pub main-spec : {M : Type 1} → statement M
+main-spec =
     tie.close
     (tie.spec
     large-buffer-requires
