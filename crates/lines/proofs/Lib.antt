@@ -10,5 +10,6 @@ pub mod Cases
 pub mod Small
 pub mod Sessions
 pub mod Whole
+pub mod InParts
 pub mod Contracts
 pub mod OneAnswer

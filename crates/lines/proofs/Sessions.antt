@@ -10,16 +10,16 @@ use lib.Seq.{sets, take-at, drop-at, drop-drop, length-take-le}
 use Rattle.lines.specs.Split.{before, linesOf}
 use Rattle.lines.specs.Line.{lineOf}
 use Rattle.lines.specs.Reply.{text, replyTo, mapAfter}
-use Rattle.lines.specs.Session.{renewed, Stepped, shown, mapIn}
+use Rattle.lines.specs.Session.{renewed, Stepped, Ended, shown, mapIn}
 use Rattle.lines.proofs.Splits.{lines-nil, lines-from}
 use Rattle.lines.proofs.Puts.{put-then}
 use Rattle.lines.proofs.Replies.{text-room}
 
--- the session at byte i of the input, where the map has n words and `at` bytes are printed
-pub record Upto (input store₀ output₀ store output : List ℕ) (i n at : ℕ) : Type 0 where
-  rest-shown : sets output at (shown (take n store) (linesOf (drop i input))) ≡ sets output₀ 0 (shown [] (linesOf input))
-  rest-count : at + length (shown (take n store) (linesOf (drop i input))) ≡ length (shown [] (linesOf input))
-  rest-map : mapIn (take n store) (linesOf (drop i input)) ≡ mapIn [] (linesOf input)
+-- the session at byte i of the input, where the map has n words and `at` bytes are printed; it had n₀ words at the start
+pub record Upto (input store₀ : List ℕ) (n₀ : ℕ) (output₀ store output : List ℕ) (i n at : ℕ) : Type 0 where
+  rest-shown : sets output at (shown (take n store) (linesOf (drop i input))) ≡ sets output₀ 0 (shown (take n₀ store₀) (linesOf input))
+  rest-count : at + length (shown (take n store) (linesOf (drop i input))) ≡ length (shown (take n₀ store₀) (linesOf input))
+  rest-map : mapIn (take n store) (linesOf (drop i input)) ≡ mapIn (take n₀ store₀) (linesOf input)
   pub kept : drop n store ≡ drop n store₀
   pub sized : length store ≡ length store₀
   pub room : length output ≡ length output₀
@@ -27,21 +27,15 @@ pub record Upto (input store₀ output₀ store output : List ℕ) (i n at : ℕ
   paid : at ≤ 6 * i
   pub within : at ≤ 6 * length input
 
--- what it has made in the end
-pub record Ended (input store₀ output₀ store output : List ℕ) (at : ℕ) : Type 0 where
-  pub counted : at ≡ length (shown [] (linesOf input))
-  pub stored : store ≡ renewed (mapIn [] (linesOf input)) store₀
-  pub all-shown : output ≡ sets output₀ 0 (shown [] (linesOf input))
-
-pub start : (input store output : List ℕ) → Upto input store output store output 0 0 0
-start input store output = record {
+pub start : (input store : List ℕ) (n : ℕ) (output : List ℕ) → n ≤ length store → Upto input store n output store output 0 n 0
+start input store n output h = record {
   rest-shown = refl;
-  rest-count = zero-add (length (shown [] (linesOf input)));
+  rest-count = zero-add (length (shown (take n store) (linesOf input)));
   rest-map = refl;
   kept = refl;
   sized = refl;
   room = refl;
-  fits = omega arith;
+  fits = h;
   paid = omega arith;
   within = omega arith;
 }
@@ -75,7 +69,7 @@ later x y n m h e =
     let k : n + (m - n) ≡ m = omega arith in
     ap (λ (j : ℕ). drop j x) (sym k) ∙ sym (drop-drop (m - n) n x) ∙ ap (drop (m - n)) e ∙ drop-drop (m - n) n y ∙ ap (λ (j : ℕ). drop j y) k
 
-module _ {input store₀ output₀ store output : List ℕ} {i n at : ℕ} (u : Upto input store₀ output₀ store output i n at)
+module _ {input store₀ : List ℕ} {n₀ : ℕ} {output₀ store output : List ℕ} {i n at : ℕ} (u : Upto input store₀ n₀ output₀ store output i n at)
     (e : ℕ) (is : e ≡ i + length (before 10 (drop i input))) (l : i < length input) (h : e ≤ length input) where
   -- the line and those after it
   abbrev line : List ℕ
@@ -129,7 +123,7 @@ module _ {input store₀ output₀ store output : List ℕ} {i n at : ℕ} (u : 
           ∙ ap (λ (k : ℕ). drop k store) (sym (t .count))
           ∙ later store store₀ n n′ (t .more) (u .kept)
 
-      pub on : Upto input store₀ output₀ store′ output′ (e + 1) n′ at′
+      pub on : Upto input store₀ n₀ output₀ store′ output′ (e + 1) n′ at′
       on = record {
         rest-shown = put-then output said (shown (take n′ store′) (linesOf (drop (e + 1) input))) at (t .printed-on) (t .next) refl
             ∙ sym (ap (sets output at) shown-rest) ∙ u .rest-shown;
@@ -151,26 +145,30 @@ module _ {input store₀ output₀ store output : List ℕ} {i n at : ℕ} (u : 
       same-store : store ≡ store₀
       same-store = later store store₀ n 0 (omega (arith, t .more)) (u .kept)
 
-      pub off : Ended input store₀ output₀ store′ output′ at′
-      off =
+      pub off : 6 * length input ≤ length output₀ → Ended input store₀ n₀ output₀ store′ output′ 0 at′
+      off room₀ =
           let shows : shown (take n store) (linesOf (drop i input)) ≡ said = ap (shown (take n store)) split ∙ shown-off (take n store) line (linesOf (drop (e + 1) input)) closed in
-          let maps : mapIn [] (linesOf input) ≡ new = sym (u .rest-map) ∙ ap (mapIn (take n store)) split ∙ map-off (take n store) line (linesOf (drop (e + 1) input)) closed ∙ sym (none new closed) in
+          let maps : mapIn (take n₀ store₀) (linesOf input) ≡ new = sym (u .rest-map) ∙ ap (mapIn (take n store)) split ∙ map-off (take n store) line (linesOf (drop (e + 1) input)) closed ∙ sym (none new closed) in
           record {
             counted = t .next ∙ ap (λ (x : List ℕ). at + length x) (sym shows) ∙ u .rest-count;
+            within = omega (arith, line-room, t .next);
+            mapped = sym (ap length maps ∙ closed);
             stored = t .mapped ∙ ap₂ renewed (sym maps) same-store;
             all-shown = t .printed-on ∙ ap (sets output at) (sym shows) ∙ u .rest-shown;
           }
 
 -- no byte is left
-pub finish : {input store₀ output₀ store output : List ℕ} {i n at : ℕ} → Upto input store₀ output₀ store output i n at → length input ≤ i
-    → Ended input store₀ output₀ store output at
+pub finish : {input store₀ : List ℕ} {n₀ : ℕ} {output₀ store output : List ℕ} {i n at : ℕ} → Upto input store₀ n₀ output₀ store output i n at
+    → 6 * length input ≤ length output₀ → length input ≤ i → Ended input store₀ n₀ output₀ store output n at
 unfolding shown mapIn
-finish {input} {store₀} {output₀} {store} {output} {i} {n} {at} u l =
+finish {input} {store₀} {n₀} {output₀} {store} {output} {i} {n} {at} u room₀ l =
     let end : linesOf (drop i input) ≡ [] = ap linesOf (drop-of-length-le input l) ∙ lines-nil in
-    let maps : mapIn [] (linesOf input) ≡ take n store = sym (u .rest-map) ∙ ap (mapIn (take n store)) end in
+    let maps : mapIn (take n₀ store₀) (linesOf input) ≡ take n store = sym (u .rest-map) ∙ ap (mapIn (take n store)) end in
     let size : length (take n store) ≡ n = length-take-le n store (u .fits) in
     record {
       counted = omega (arith, u .rest-count, ap (λ (ls : List (List ℕ)). length (shown (take n store) ls)) end);
+      within = omega (arith, u .within);
+      mapped = sym (ap length maps ∙ size);
       stored = sym (take-append-drop n store) ∙ ap (λ (x : List ℕ). take n store ++ x) (u .kept ∙ ap (λ (k : ℕ). drop k store₀) (sym size)) ∙ ap (λ (m : List ℕ). renewed m store₀) (sym maps);
       all-shown = ap (sets output at) (sym (ap (shown (take n store)) end)) ∙ u .rest-shown;
     }

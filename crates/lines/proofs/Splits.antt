@@ -99,7 +99,7 @@ pub lines-nil : linesOf [] ≡ []
 unfolding linesOf pieces trimmed
 lines-nil = refl
 
-trimmed-more : (p : List ℕ) (ps : List (List ℕ)) → 0 < length ps → trimmed (p ∷ ps) ≡ p ∷ trimmed ps
+pub trimmed-more : (p : List ℕ) (ps : List (List ℕ)) → 0 < length ps → trimmed (p ∷ ps) ≡ p ∷ trimmed ps
 unfolding trimmed
 trimmed-more p [] l = absurd (omega arith)
 trimmed-more p (q ∷ ps) l = refl

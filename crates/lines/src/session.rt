@@ -1,13 +1,11 @@
-// A whole input, line by line.
+// An input, or a part of one, line by line.
 ghost use mathlib.Core.Path.{_≡_};
-ghost use mathlib.Core.List.{[]};
 ghost use Prim.Native.Nat.{_+_, _*_, _≤_};
 ghost use lib.ListN.{length, take, replicate};
 ghost use lib.Seq.{sets};
-ghost use Rattle.lines.specs.Split.{linesOf};
 ghost use Rattle.lines.specs.Line.{lineOf};
 ghost use Rattle.lines.specs.Reply.{text, replyTo, opened};
-ghost use Rattle.lines.specs.Session.{mostWords, renewed, Stepped, shown, mapIn};
+ghost use Rattle.lines.specs.Session.{mostWords, renewed, Stepped, Ended};
 use crate::read;
 use crate::table;
 use crate::table::Reply;
@@ -63,15 +61,14 @@ fn step(line: &[u8], n: usize, at: usize, words: &mut [u16], out: &mut [u8]) -> 
     State { n: m, at: next }
 }
 
-// Goes through the lines of the input, and answers how many bytes it printed.
-pub fn session(input: &[u8], words: &mut [u16], out: &mut [u8]) -> usize
-    requires { ⌜ (mostWords ≤ length (now words)) × (6 * length (now input) ≤ length (now out)) × (length (now input) ≤ 65536) ⌝ }
-    ensures { λ r. ⌜ (r ≡ length (shown [] (linesOf (now (input .entry))))) × (r ≤ length (now (out .entry))) ⌝ }
-    ensures { λ _. ⌜ now (words .exit) ≡ renewed (mapIn [] (linesOf (now (input .entry)))) (now (words .entry)) ⌝ }
-    ensures { λ _. ⌜ now (out .exit) ≡ sets (now (out .entry)) 0 (shown [] (linesOf (now (input .entry)))) ⌝ }
+// Goes through the lines of the input, where the map has its first `map` words, none before the first line; answers how many it has then
+// and how many bytes were printed.
+pub fn session(input: &[u8], words: &mut [u16], map: usize, out: &mut [u8]) -> State
+    requires { ⌜ (map ≤ length (now words)) × (mostWords ≤ length (now words)) × (6 * length (now input) ≤ length (now out)) ⌝ }
+    ensures { λ r. ⌜ Ended (now (input .entry)) (now (words .entry)) map (now (out .entry)) (now (words .exit)) (now (out .exit)) (r .n) (r .at) ⌝ }
 {
     let mut i = 0;
-    let mut n = 0;
+    let mut n = map;
     let mut at = 0;
     while i < input.len() {
         let end = read::find(input, i, b'\n');
@@ -80,8 +77,8 @@ pub fn session(input: &[u8], words: &mut [u16], out: &mut [u8]) -> usize
         at = s.at;
         i = end + 1;
         if n == 0 {
-            return at;
+            return State { n: 0, at };
         }
     }
-    at
+    State { n, at }
 }

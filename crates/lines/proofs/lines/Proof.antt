@@ -1,46 +1,32 @@
--- `lines::lines` meets its contract. Assumes nothing.
+-- `lines::lines` meets its contract: the part that is read answers for the whole. Assumes nothing.
 use mathlib.Core.Path.{sym}
-use Prim.Native.Nat.{_≤_}
 use native.Mathlib.Omega.{arith}
-use Rattle.words.specs.Sizes.{words}
-use lib.ListN.{length}
 use lib.Seq.{length-take-le}
-use Rattle.lines.proofs.Whole.{few-words, few-bytes, whole}
+use Rattle.lines.proofs.Whole.{whole}
 use borrow.Author.Needs.{needs}
 use Rattle.lines.proofs.lines.Statement.{statement}
 use Rattle.lines.proofs.lines.Tie as tie
 
--- the bytes that are read are there
-read-le : (c : tie.After-least) → c .least .result ≤ length (c .before .before .before .before .args .input .now)
-read-le c = omega (arith, c .least .ensures)
+-- the call of `go_on`, from behind it
+abbrev least : tie.After-go-on → tie.After-least
+least d = d .before .before .before .before
 
 least-requires : tie.Need-least-requires
 least-requires c κs = search needs
 
-returns : tie.Need-returns
-unfolding words
-returns c = few-words _ _ _ (c .if1 .taken)
+slice-aggregate-go-on : tie.Need-slice-aggregate-go-on
+slice-aggregate-go-on c =
+    let l = c .before in
+    sym (length-take-le (l .least .result) (l .before .before .before .before .args .input .now) (omega (arith, l .least .ensures)))
 
-mul-if2 : tie.Need-mul-if2
-mul-if2 c = search needs
+go-on-requires : tie.Need-go-on-requires
+go-on-requires c κs = search needs
 
-returns-2 : tie.Need-returns-2
-unfolding words
-returns-2 c =
-    let e = c .before in
-    few-bytes _ _ _ (e .before .least .result) (e .before .least .ensures) (e .if1 .left) (c .if2 .taken)
+enum-known-count : tie.Need-enum-known-count
+enum-known-count c = search needs
 
-slice-aggregate-session : tie.Need-slice-aggregate-session
-slice-aggregate-session c =
-    let l = c .before .before .before in
-    sym (length-take-le (l .least .result) (l .before .before .before .before .args .input .now) (read-le l))
-
-session-requires : tie.Need-session-requires
-unfolding words
-session-requires c κs =
-    let l = c .before .before .before .before .before in
-    let n = length-take-le (l .least .result) (l .before .before .before .before .args .input .now) (read-le l) in
-    (omega (arith, c .before .before .before .before .if1 .left), omega (arith, c .before .before .before .if2 .left), omega (arith, l .least .ensures))
+enum-known-r : tie.Need-enum-known-r
+enum-known-r c = search needs
 
 same-length : tie.Need-same-length
 same-length c = search needs
@@ -48,24 +34,36 @@ same-length c = search needs
 same-length-2 : tie.Need-same-length-2
 same-length-2 c = search needs
 
-returns-3 : tie.Need-returns-3
-unfolding words
-returns-3 c =
-    let d = c .before .before .before .before in
-    let e = d .before .before .before .before in
-    let l = e .before .before in
-    whole _ _ _ (l .least .result) (l .least .ensures) (e .before .if1 .left) (e .if2 .left) (d .session .ensures .0 .0) (d .session .ensures .0 .1) (d .session .ensures .1 .0) (d .session .ensures .1 .1)
+returns : tie.Need-returns
+returns c =
+    let k = c .before in
+    let d = k .before .before .before .before .before .before in
+    whole _ _ _ (least d .least .result) (least d .least .ensures) (k .count .given .1) (d .go-on .ensures)
+
+same-length-3 : tie.Need-same-length-3
+same-length-3 c = search needs
+
+same-length-4 : tie.Need-same-length-4
+same-length-4 c = search needs
+
+returns-2 : tie.Need-returns-2
+returns-2 c =
+    let k = c .before in
+    let d = k .before .before .before .before .before .before in
+    whole _ _ _ (least d .least .result) (least d .least .ensures) (k .r .given .1) (d .go-on .ensures)
 
 pub lines-spec : {M : Type 1} → statement M
 lines-spec =
     tie.close
     (tie.spec
     least-requires
-    returns
-    mul-if2
-    returns-2
-    slice-aggregate-session
-    session-requires
+    slice-aggregate-go-on
+    go-on-requires
+    enum-known-count
+    enum-known-r
     same-length
     same-length-2
-    returns-3)
+    returns
+    same-length-3
+    same-length-4
+    returns-2)

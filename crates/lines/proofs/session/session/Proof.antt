@@ -8,10 +8,10 @@ use Rattle.lines.proofs.session.session.Statement.{statement}
 use Rattle.lines.proofs.session.session.Tie as tie
 
 abbrev Inv-loop : tie.InvT-loop
-Inv-loop input words₀ out₀ i₀ n₀ at₀ words out i n at = Upto input words₀ out₀ words out i n at
+Inv-loop input words₀ map out₀ i₀ n₀ at₀ words out i n at = Upto input words₀ map out₀ words out i n at
 
 abbrev μ-loop : tie.MeasureT-loop
-μ-loop input words₀ out₀ i₀ n₀ at₀ words out i n at = length input - i
+μ-loop input words₀ map out₀ i₀ n₀ at₀ words out i n at = length input - i
 
 -- the loop's head and the entry, from the end of a line
 abbrev head : tie.After-find Inv-loop μ-loop → tie.At-loop Inv-loop μ-loop
@@ -25,7 +25,7 @@ abbrev ended : tie.After-step Inv-loop μ-loop → tie.After-find Inv-loop μ-lo
 ended d = d .before .before .before .before
 
 loop-holds : tie.Need-loop-holds Inv-loop μ-loop
-loop-holds c = begin _ _ _
+loop-holds c = begin _ _ _ _ (c .before .before .before .pre .0)
 
 find-requires : tie.Need-find-requires Inv-loop μ-loop
 find-requires c κs = omega (arith, c .loop-test .taken)
@@ -45,8 +45,8 @@ step-requires c κs =
     let u = head f .loop .inv in
     let pre = entry f .pre in (
       u .fits,
-      omega (arith, u .sized, pre .0),
-      omega (arith, line-room u (f .find .result) (f .find .ensures .0) (f .before .loop-test .taken) (f .find .ensures .2), u .room, pre .1),
+      omega (arith, u .sized, pre .1),
+      omega (arith, line-room u (f .find .result) (f .find .ensures .0) (f .before .loop-test .taken) (f .find .ensures .2), u .room, pre .2),
     )
 
 add-i : tie.Need-add-i Inv-loop μ-loop
@@ -69,9 +69,7 @@ returns c =
     let d = c .before .before .before .before .before in
     let f = ended d in
     let u = head f .loop .inv in
-    let fin = off u (f .find .result) (f .find .ensures .0) (f .before .loop-test .taken) (f .find .ensures .2) (d .step .ensures) (d .step .kept .1 .1 .1 .0) (d .step .kept .1 .1 .1 .1 .0) (c .if1 .taken) in
-    let room = line-room u (f .find .result) (f .find .ensures .0) (f .before .loop-test .taken) (f .find .ensures .2) in
-    ((fin .counted, omega (arith, d .step .ensures .next, room, entry f .pre .1)), (fin .stored, fin .all-shown))
+    off u (f .find .result) (f .find .ensures .0) (f .before .loop-test .taken) (f .find .ensures .2) (d .step .ensures) (d .step .kept .1 .1 .1 .0) (d .step .kept .1 .1 .1 .1 .0) (c .if1 .taken) (entry f .pre .2)
 
 loop-less : tie.Need-loop-less Inv-loop μ-loop
 loop-less c =
@@ -93,9 +91,7 @@ same-length-4 c = c .before .loop .inv .room
 returns-2 : tie.Need-returns-2 Inv-loop μ-loop
 returns-2 c =
     let l = c .before in
-    let u = l .loop .inv in
-    let fin = finish u (c .loop-test .left) in
-    ((fin .counted, omega (arith, u .within, l .before .before .before .before .pre .1)), (fin .stored, fin .all-shown))
+    finish (l .loop .inv) (l .before .before .before .before .pre .2) (c .loop-test .left)
 
 pub session-spec : {M : Type 1} → statement M
 session-spec =
