@@ -93,7 +93,8 @@ function below(i, level, from, above,    c, at, b, n, k, note, span) {
             if (n < 3) n = 1
             row(at, level - 1, from + c * span, from + (c + 1) * span - 1, above b, note)
             below(at, level - 1, from + c * span, above b)
-            if (n > 1) printf "alike\t%d\t%d\t%d\t%d parts like the one above\n", levels - level, from + (c + 1) * span, from + (c + n) * span - 1, n - 1
+            if (n > 1)
+                printf "alike\t%d\t%d\t%d\t%d parts like the one above\n", levels - level, from + (c + 1) * span, from + (c + n) * span - 1, n - 1
         }
     }
 }

@@ -1,5 +1,6 @@
 # Draws the rows of a picture, which rows.awk made, as SVG that can stand in a web page. Plain awk, used by ./draw.
-# A position is a square, filled where it is free; a bit of a summary word is round. A bit that is wrong has a thick red edge and its mark.
+# A position is a square, filled where it is free; a bit of a summary word is round. A bit that is wrong,
+# or lost, has a thick red edge and its mark.
 BEGIN { FS = "\t"; HIGH = 21; CELL = 14; LETTER = 7.3; wide = 700 }
 
 function escaped(text) { gsub(/&/, "\\&amp;", text); gsub(/</, "\\&lt;", text); gsub(/>/, "\\&gt;", text); return text }
@@ -16,9 +17,9 @@ function cell(i, y, m, leaf,    x, colour, fill, edge) {
     x = cells + i * (CELL + 2) + int(i / 4) * 5
     colour = leaf ? "#1b7f4b" : "#24548f"
     fill = (m == "F" || m == "!") ? colour : m == "f" ? "#b7ddc6" : "#ffffff"
-    edge = (m == "!" || m == "?" || m == "f") ? "stroke=\"#c40000\" stroke-width=\"2.5\"" : "stroke=\"" (m == "F" ? colour : "#8a8a8a") "\""
+    edge = (m != "F" && m != ".") ? "stroke=\"#c40000\" stroke-width=\"2.5\"" : "stroke=\"" (m == "F" ? colour : "#8a8a8a") "\""
     put("<rect x=\"" x "\" y=\"" y - CELL / 2 "\" width=\"" CELL "\" height=\"" CELL "\" rx=\"" (leaf ? 1 : CELL / 2) "\" fill=\"" fill "\" " edge "/>")
-    if (m == "!" || m == "?")
+    if (m != "F" && m != ".")
         words(x + CELL / 2, y, m, " text-anchor=\"middle\" font-weight=\"bold\" fill=\"" (m == "!" ? "#ffffff" : "#c40000") "\"")
 }
 
