@@ -20,10 +20,17 @@ fn main() {
     let mut output = [0u8; PRINTED];
     match lines::lines(&input[..n], &mut words, &mut output) {
         Printed::Bytes(count) => {
-            io::write_all(STDOUT_FILENO, &output[..count]);
+            print(&output, count);
             show(&words, words_of(output[4]));
         }
         Printed::No(_) => {}
+    }
+}
+
+// The first n bytes.
+fn print(bytes: &[u8], n: usize) {
+    if n <= bytes.len() {
+        io::write_all(STDOUT_FILENO, &bytes[..n]);
     }
 }
 
