@@ -5,7 +5,7 @@ BEGIN { FS = "\t"; HIGH = 21; CELL = 14; LETTER = 7.3; wide = 700 }
 
 function escaped(text) { gsub(/&/, "\\&amp;", text); gsub(/</, "\\&lt;", text); gsub(/>/, "\\&gt;", text); return text }
 
-function put(line) { body = body line "\n" }
+function put(line) { body[++parts] = line }
 
 function words(x, y, text, extra) {
     if (x + LETTER * length(text) + 4 > wide) wide = int(x + LETTER * length(text) + 4)
@@ -55,6 +55,6 @@ END {
     high = 14 + (rows + 1) * HIGH
     print "<svg xmlns=\"http://www.w3.org/2000/svg\" viewBox=\"0 0 " wide " " high "\" width=\"" wide "\" role=\"img\" font-family=\"'DejaVu Sans Mono', Menlo, Consolas, monospace\" font-size=\"12\" fill=\"#111111\">"
     print "<title>" escaped(head) "</title>"
-    printf "%s", body
+    for (i = 1; i <= parts; i++) print body[i]
     print "</svg>"
 }
