@@ -1,5 +1,6 @@
 # Makes the rows of a picture from a map's words. Plain awk, used by ./draw.
-# Reads `words N` and then up to N words, 0x and four digits or a decimal number each; those that are not given are 0.
+# Reads `words N` and then up to N words, 0x and four digits or a decimal number each; those that are not given are 0. `words 0x....` has
+# the first words of a map of 256 positions on the same line, as docs/course/on-words reads them; commands behind it are passed over.
 # Writes a row a line, its fields between tabs:
 #   head   TEXT
 #   word   DEPTH FROM TO WORD MARKS ABOVE NOTE        a word over the positions FROM to TO; ABOVE are the bits over it, the top's first
@@ -107,10 +108,11 @@ BEGIN {
     for (i = 0; i < 4; i++) { size[i] = (i ? 16 * size[i - 1] : 0) + 1; cap[i] = 16 * (i ? cap[i - 1] : 1) }
     total = -1
 }
+/^[a-z]/ && total >= 0 { exit }
 {
     for (f = 1; f <= NF; f++) {
         if ($f ~ /^#/) break
-        if ($f == "words" && total < 0) { total = number($(++f)); continue }
+        if ($f == "words" && total < 0) { total = $(f + 1) ~ /^0x/ ? 17 : number($(++f)); continue }
         value = number($f)
         if (total < 0) refuse("the first line has to be: words N")
         if (value < 0 || value > 65535) refuse("no word of 16 bits: " $f)
