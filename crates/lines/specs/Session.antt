@@ -1,7 +1,7 @@
 -- What is printed for lines, and the words afterwards: of a part of an input, which goes on with the map there is, and of a whole one.
 -- Definitions only.
 use mathlib.Core.Path.{_≡_}
-use Prim.Native.Nat.{ℕ, _+_, _*_, _≤_, _<_}
+use Prim.Native.Nat.{ℕ, _+_, _*_, _≤_}
 use mathlib.Core.Bool.{Bool, cond, _||_}
 use mathlib.Core.List.{List, [], _∷_, _++_}
 use lib.Dec.{eqb, ltb}
@@ -88,10 +88,10 @@ unfoldable pub joined : List (List ℕ) → List ℕ
 joined [] = []
 joined (p ∷ ps) = p ++ joined ps
 
--- each of them is some bytes, and each but the last ends with a line end
+-- each of them but the last ends with a line end
 unfoldable pub Parts : List (List ℕ) → Type 0
 Parts [] = Unit
-Parts (p ∷ []) = 0 < length p
+Parts (p ∷ []) = Unit
 Parts (p ∷ q ∷ ps) = ((a : List ℕ) × (p ≡ a ++ (10 ∷ []))) × Parts (q ∷ ps)
 
 -- what calls of `go_on` print for them, each on the words and the map that the one before it left, until a wrong first line ends it
