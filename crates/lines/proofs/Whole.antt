@@ -13,6 +13,7 @@ use Rattle.bitmap.specs.declared.answers.Refusal.the-variants.{TooShort}
 use Rattle.words.specs.Sizes.{words}
 use Rattle.words.proofs.Tests.{or-left, or-right, neither, sort}
 use Rattle.bitmap.specs.Answer.{Said, given, refused, refuse, number}
+use Rattle.bitmap.proofs.Refusals.{given-on}
 use Rattle.lines.specs.declared.Went.{Went}
 use Rattle.lines.specs.declared.Went.the-variants.{On, No}
 use Rattle.lines.specs.Session.{mostWords, renewed, Ended, shortOn, printedOn, mapOn, wentOn, wordsOn, outputOn, cut, printed, linesSays}
@@ -90,7 +91,11 @@ module _ (input store output : List ℕ) where
         (p .1 .0 ∙ ap (λ (x : List ℕ). wordsOn x store 0 output) read, p .1 .1 ∙ ap (λ (x : List ℕ). outputOn x store 0 output) read),
       )
 
--- for a caller: the bytes printed are bytes of the output
+-- ---- for a caller: the bytes printed are bytes of the output
+
+renewed-le : (new old : List ℕ) → length new ≤ length (renewed new old)
+renewed-le new old = omega (arith, length-append new (drop (length new) old))
+
 pub on-le : (input store : List ℕ) (n : ℕ) (output : List ℕ) {output′ : List ℕ} (at m : ℕ) → On at m ≡ wentOn input store n output
     → output′ ≡ outputOn input store n output → at ≤ length output′
 unfolding wentOn outputOn
@@ -101,4 +106,13 @@ on-le input store n output {output′} at m e o = by (shortOn input store n outp
     by true e o = let z : _≡_ {A = ℕ} 0 1 = cc in absurd (omega arith)
     by false e o =
         let c : at ≡ length (printedOn input store n) = cc in
-        omega (arith, ap length o, length-append (printedOn input store n) (drop (length (printedOn input store n)) output))
+        omega (arith, ap length o, renewed-le (printedOn input store n) output)
+
+pub count-le : (input store output : List ℕ) {output′ : List ℕ} (n : ℕ) → given n ≡ linesSays input store output
+    → output′ ≡ outputOn (cut input) store 0 output → n ≤ length output′
+unfolding linesSays outputOn
+count-le input store output {output′} n e o =
+    let is = given-on n 9 (shortOn (cut input) store 0 output) (given (length (printed input))) e in
+    let c : n ≡ length (printed input) = cc (is .1) in
+    let w : output′ ≡ renewed (printed input) output = o ∙ rw (is .0) in
+    omega (arith, ap length w, renewed-le (printed input) output)

@@ -1,14 +1,16 @@
-// A tour of the library lines: small inputs, wrong first lines among them, and stores and outputs that are too short by one.
+// A tour of the library lines: small inputs, wrong first lines among them, stores and outputs that are too short by one, and parts.
 // Each is named, and what is printed for it follows.
 use bitmap::BitAlloc64K;
 use libc::STDOUT_FILENO;
 use lines::Printed;
+use lines::Went;
 
 fn main() {
     no_lines();
     wrong_first_lines();
     last_lines();
     targets();
+    parts();
 }
 
 // No input, and no line.
@@ -56,6 +58,33 @@ fn targets() {
     let mut its_words = [1u16; BitAlloc64K::WORDS];
     let mut few_bytes = [b'.'; 47];
     sized(b"a byte too few", &mut its_words, &mut few_bytes);
+}
+
+// Parts of an input, each on the map that the one before it left; a map with more words than there are; and a wrong first line.
+fn parts() {
+    let mut words = [0u16; BitAlloc64K::WORDS];
+    let first = part(b"a first part", b"size 1\ninsert 0 4\n", &mut words, 0);
+    let second = part(b"a second", b"take\ntake\n", &mut words, first);
+    part(b"a last, with no line end", b"take", &mut words, second);
+    part(b"no byte", b"", &mut words, second);
+    part(b"a map with a word too many", b"take\n", &mut words, 4370);
+    part(b"a wrong first line", b"take\nsize 1\n", &mut words, 0);
+}
+
+// Prints the answers to a part, and answers how many words the map has then.
+fn part(name: &[u8], input: &[u8], words: &mut [u16], map: usize) -> usize {
+    title(name);
+    let mut output = [0u8; 128];
+    match lines::go_on(input, words, map, &mut output) {
+        Went::On(count, now) => {
+            io::write_all(STDOUT_FILENO, &output[..count]);
+            now
+        }
+        Went::No(_) => {
+            io::write_all(STDOUT_FILENO, b"refused\n");
+            0
+        }
+    }
 }
 
 fn title(name: &[u8]) {
