@@ -37,23 +37,36 @@
 extern "C" {
 #endif
 
-/* The seven sizes: how many positions a map has, and how many words. */
+/* The version of this header, and of the library that is installed with it. CHANGELOG.md says what each version changed. */
+#define ASOGEREN_VERSION_MAJOR 0
+#define ASOGEREN_VERSION_MINOR 3
+#define ASOGEREN_VERSION_PATCH 0
+#define ASOGEREN_VERSION "0.3.0"
+
+/* The seven sizes: how many positions a map has, how many words, and how many bytes its image has. */
 #define ASOGEREN_BITALLOC16_CAP 16
 #define ASOGEREN_BITALLOC16_WORDS 1
+#define ASOGEREN_BITALLOC16_IMAGE_BYTES 6
 #define ASOGEREN_BITALLOC256_CAP 256
 #define ASOGEREN_BITALLOC256_WORDS 17
+#define ASOGEREN_BITALLOC256_IMAGE_BYTES 42
 #define ASOGEREN_BITALLOC4K_CAP 4096
 #define ASOGEREN_BITALLOC4K_WORDS 273
+#define ASOGEREN_BITALLOC4K_IMAGE_BYTES 558
 #define ASOGEREN_BITALLOC64K_CAP 65536
 #define ASOGEREN_BITALLOC64K_WORDS 4369
+#define ASOGEREN_BITALLOC64K_IMAGE_BYTES 8754
 #define ASOGEREN_BITALLOC1M_CAP 1048576
 #define ASOGEREN_BITALLOC1M_WORDS 69905
+#define ASOGEREN_BITALLOC1M_IMAGE_BYTES 139830
 #define ASOGEREN_BITALLOC16M_CAP 16777216
 #define ASOGEREN_BITALLOC16M_WORDS 1118481
+#define ASOGEREN_BITALLOC16M_IMAGE_BYTES 2236986
 #define ASOGEREN_BITALLOC256M_CAP 268435456
 #define ASOGEREN_BITALLOC256M_WORDS 17895697
+#define ASOGEREN_BITALLOC256M_IMAGE_BYTES 35791422
 
-/* What an answer's refusal is: 0, or why the call was refused. */
+/* What an answer's refusal is: 0, or why the call was refused. Later versions may give more numbers. */
 enum asogeren_refusal {
     ASOGEREN_GIVEN = 0,
     ASOGEREN_WORD_COUNT = 1,   /* the count of words is not one of the seven */
@@ -64,9 +77,26 @@ enum asogeren_refusal {
     ASOGEREN_ALREADY_FREE = 6, /* a position that is given back is free already */
     ASOGEREN_UNTRUE = 7,       /* the map's summary bits are not true */
     ASOGEREN_BAD_IMAGE = 8,    /* an image has a wrong length or a wrong section count */
-    ASOGEREN_TOO_SHORT = 9,    /* the target is too short */
-    ASOGEREN_BAD_LINE = 10     /* the line program alone: a line that it can't read */
+    ASOGEREN_TOO_SHORT = 9     /* the target is too short */
 };
+
+/* The same as a sentence, for a log or a screen. It is never NULL, whatever the number. */
+static inline const char *asogeren_refusal_text(uint64_t refusal)
+{
+    switch (refusal) {
+    case ASOGEREN_GIVEN: return "the call was not refused";
+    case ASOGEREN_WORD_COUNT: return "the count of words is not one of the seven";
+    case ASOGEREN_PAST_END: return "a position is past the end of the map, or a range ends before it starts";
+    case ASOGEREN_NO_SIZE: return "the size is 0, or the range is empty";
+    case ASOGEREN_ALIGNMENT: return "the alignment is larger than the map, or the base is no multiple of it";
+    case ASOGEREN_NONE_FREE: return "no fitting position is free";
+    case ASOGEREN_ALREADY_FREE: return "a position that is given back is free already";
+    case ASOGEREN_UNTRUE: return "the map's summary bits are not true";
+    case ASOGEREN_BAD_IMAGE: return "the image has a wrong length or a wrong section count";
+    case ASOGEREN_TOO_SHORT: return "the target is too short";
+    default: return "no call gives this number";
+    }
+}
 
 /* What every call returns. */
 struct asogeren_answer {
@@ -158,8 +188,7 @@ struct asogeren_answer asogeren_check(const uint16_t *store, size_t store_count)
 /*
  * Writes the image of a true map to the first bytes of the target; the bytes behind them stay. Value: how many bytes were written.
  * An image has a section for each level, from the single top word down to the leaves: the count of its words as 4 bytes, lowest
- * byte first, then the words in rising order of position, 2 bytes each, lowest byte first. For n from 1 to 7 it has 6, 42, 558,
- * 8,754, 139,830, 2,236,986 or 35,791,422 bytes.
+ * byte first, then the words in rising order of position, 2 bytes each, lowest byte first. Its length is the size's _IMAGE_BYTES.
  * Refusals: ASOGEREN_WORD_COUNT; ASOGEREN_UNTRUE where the map is not true; ASOGEREN_TOO_SHORT where the target is shorter than the
  * image.
  */

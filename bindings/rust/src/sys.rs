@@ -15,7 +15,8 @@ impl Answer {
         match self.refusal {
             // a usize has 64 bits here
             0 => Ok(self.value as usize),
-            n => Err(Refusal::of(n)),
+            // it is proved of every call that its number is one of these
+            n => Err(Refusal::try_from(n).expect("the archive is of this version")),
         }
     }
 

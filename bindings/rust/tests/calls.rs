@@ -3,19 +3,6 @@
 use asogeren::{BitAlloc16, BitAlloc16M, BitAlloc1M, BitAlloc256, BitAlloc256M, BitAlloc4K, BitAlloc64K, Map, Refusal};
 use Refusal::{Alignment, AlreadyFree, BadImage, NoSize, NoneFree, PastEnd, TooShort, Untrue, WordCount};
 
-const ALL: [Refusal; 10] = [
-    WordCount,
-    PastEnd,
-    NoSize,
-    Alignment,
-    NoneFree,
-    AlreadyFree,
-    Untrue,
-    BadImage,
-    TooShort,
-    Refusal::BadLine,
-];
-
 #[test]
 fn the_sizes() {
     let sizes = [
@@ -38,14 +25,6 @@ fn the_sizes() {
         assert_eq!(map.test(cap), Err(PastEnd));
         assert_eq!(map.alloc(), Ok(cap - 1));
         assert_eq!(map.check(), Ok(true));
-    }
-}
-
-#[test]
-fn the_numbers_of_the_refusals() {
-    for (i, refusal) in ALL.into_iter().enumerate() {
-        assert_eq!(refusal.number() as usize, i + 1);
-        assert!(refusal.to_string().ends_with(&format!("(refusal {})", i + 1)));
     }
 }
 
