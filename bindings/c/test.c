@@ -39,13 +39,6 @@ static uint16_t map[ASOGEREN_BITALLOC256_WORDS], kept[ASOGEREN_BITALLOC256_WORDS
 static void keep(void) { memcpy(kept, map, sizeof map); }
 static int same(void) { return memcmp(kept, map, sizeof map) == 0; }
 
-static void the_answer_is_two_words(void)
-{
-    HOLDS(sizeof(struct asogeren_answer) == 16);
-    HOLDS(offsetof(struct asogeren_answer, refusal) == 0);
-    HOLDS(offsetof(struct asogeren_answer, value) == 8);
-}
-
 static void the_calls(void)
 {
     memset(map, 0, sizeof map);
@@ -263,39 +256,41 @@ static void word_counts(void)
     HOLDS(same());
 }
 
-/* Each size, from its last position down. */
+/* Each size, from its last position down, with its image. */
 static void the_sizes(void)
 {
-    static const struct { size_t cap, words; } sizes[] = {
-        {ASOGEREN_BITALLOC16_CAP, ASOGEREN_BITALLOC16_WORDS},     {ASOGEREN_BITALLOC256_CAP, ASOGEREN_BITALLOC256_WORDS},
-        {ASOGEREN_BITALLOC4K_CAP, ASOGEREN_BITALLOC4K_WORDS},     {ASOGEREN_BITALLOC64K_CAP, ASOGEREN_BITALLOC64K_WORDS},
-        {ASOGEREN_BITALLOC1M_CAP, ASOGEREN_BITALLOC1M_WORDS},     {ASOGEREN_BITALLOC16M_CAP, ASOGEREN_BITALLOC16M_WORDS},
-        {ASOGEREN_BITALLOC256M_CAP, ASOGEREN_BITALLOC256M_WORDS},
-    };
+#define SIZE(name) {ASOGEREN_BITALLOC##name##_CAP, ASOGEREN_BITALLOC##name##_WORDS, ASOGEREN_BITALLOC##name##_IMAGE_BYTES}
+    static const struct { size_t cap, words, bytes; } sizes[] = {SIZE(16), SIZE(256), SIZE(4K), SIZE(64K), SIZE(1M), SIZE(16M), SIZE(256M)};
     size_t i;
 
     for (i = 0; i < sizeof sizes / sizeof sizes[0]; i++) {
-        const size_t cap = sizes[i].cap, count = sizes[i].words;
+        const size_t cap = sizes[i].cap, count = sizes[i].words, length = sizes[i].bytes;
         uint16_t *store = calloc(count, sizeof *store);
+        uint8_t *image = malloc(length);
 
-        HOLDS(store != NULL);
-        if (store == NULL)
+        HOLDS(store != NULL && image != NULL);
+        if (store == NULL || image == NULL)
             return;
         GIVES(asogeren_dealloc(store, count, cap - 1), 0);
         GIVES(asogeren_test(store, count, cap - 1), 1);
         REFUSES(asogeren_test(store, count, cap), ASOGEREN_PAST_END);
         GIVES(asogeren_next(store, count, 0), cap - 1);
         GIVES(asogeren_check(store, count), 1);
+        REFUSES(asogeren_image_write(store, count, image, length - 1), ASOGEREN_TOO_SHORT);
+        GIVES(asogeren_image_write(store, count, image, length), length);
+        GIVES(asogeren_insert(store, count, 0, cap), 0);
+        GIVES(asogeren_image_read(image, length, store, count), i + 1);
+        GIVES(asogeren_next(store, count, 0), cap - 1);
         GIVES(asogeren_insert(store, count, 0, cap), 0);
         GIVES(asogeren_alloc_contiguous(store, count, cap, 4 * (i + 1)), 0);
         GIVES(asogeren_is_empty(store, count), 1);
+        free(image);
         free(store);
     }
 }
 
 int main(void)
 {
-    the_answer_is_two_words();
     the_calls();
     the_refusals_of_takes();
     the_refusals_of_changes();
