@@ -30,7 +30,7 @@ pub struct MapOf<W> {
     pub(crate) words: W,
 }
 
-/// A map over words that are lent to be looked at. It has the calls that change nothing, and can be copied.
+/// A map over words that are lent to be looked at. It has the calls of [`MapOf`] that change nothing, and can be copied.
 ///
 /// ```
 /// use asogeren::{BitAlloc256, View};
@@ -57,7 +57,7 @@ pub struct MapOf<W> {
 /// ```
 pub type View<'a> = MapOf<&'a [u16]>;
 
-/// A map over words that are lent to be changed.
+/// A map over words that are lent to be changed. It has the calls of [`MapOf`].
 ///
 /// ```
 /// use asogeren::{BitAlloc256, Map};

@@ -132,6 +132,7 @@ macro_rules! sizes {
     ($($name:ident, $cap:literal, $words:literal, $image:literal;)*) => {
         $(
             #[doc = concat!("A map of ", $cap, " positions in ", $words, " words of its own; its image has ", $image, " bytes.")]
+            /// It has the calls of [`MapOf`].
             ///
             /// ```
             #[doc = concat!("use asogeren::", stringify!($name), ";")]
