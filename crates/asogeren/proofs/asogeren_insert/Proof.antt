@@ -1,6 +1,6 @@
--- `asogeren::asogeren_insert` meets its contract: it passes on what `bitmap::insert` says and leaves. Assumes nothing.
+-- `asogeren::asogeren_insert` meets its contract: it passes on what `bitmap::insert` says and leaves. It is found by search, so that a wrong
+-- call is refused for what it leaves (must-fail/insert_removes). Assumes nothing.
 use borrow.Author.Needs.{needs}
-use Rattle.asogeren.proofs.Passed.{passed-case}
 use Rattle.asogeren.proofs.asogeren_insert.Statement.{statement}
 use Rattle.asogeren.proofs.asogeren_insert.Tie as tie
 
@@ -14,6 +14,6 @@ asogeren-insert-spec = tie.close (tie.spec
     (λ c κs. search needs)
     -- same-length and returns, of each case
     (λ c. search needs)
-    (λ c. passed-case _ _ (c .before .enum-told .given .1) (c .of-value .ensures) (c .before .before .before .before .before .insert .ensures))
+    (λ c. (cc, search needs))
     (λ c. search needs)
-    (λ c. passed-case _ _ (c .before .before .n .given .1) (c .of-refusal .ensures) (c .before .before .before .before .before .before .insert .ensures)))
+    (λ c. (cc, search needs)))

@@ -46,7 +46,7 @@ step-requires c κs =
     let pre = entry f .pre in (
       u .fits,
       omega (arith, u .sized, pre .1),
-      omega (arith, line-room u (f .find .result) (f .find .ensures .0) (f .before .loop-test .taken) (f .find .ensures .2), u .room, pre .2),
+      omega (arith, line-room u (f .find .result) (f .find .ensures .0) (omega (arith, f .before .loop-test .taken)) (f .find .ensures .2), u .room, pre .2),
     )
 
 add-i : tie.Need-add-i Inv-loop μ-loop
@@ -69,7 +69,7 @@ returns c =
     let d = c .before .before .before .before .before in
     let f = ended d in
     let u = head f .loop .inv in
-    off u (f .find .result) (f .find .ensures .0) (f .before .loop-test .taken) (f .find .ensures .2) (d .step .ensures) (d .step .kept .1 .1 .1 .0) (d .step .kept .1 .1 .1 .1 .0) (c .if1 .taken) (entry f .pre .2)
+    off u (f .find .result) (f .find .ensures .0) (omega (arith, f .before .loop-test .taken)) (f .find .ensures .2) (d .step .ensures) (d .step .kept .1 .1 .1 .0) (d .step .kept .1 .1 .1 .1 .0) (c .if1 .taken) (entry f .pre .2)
 
 loop-less : tie.Need-loop-less Inv-loop μ-loop
 loop-less c =
@@ -80,7 +80,7 @@ loop-again : tie.Need-loop-again Inv-loop μ-loop
 loop-again c =
     let d = c .before .before .before .before .before in
     let f = ended d in
-    on (head f .loop .inv) (f .find .result) (f .find .ensures .0) (f .before .loop-test .taken) (f .find .ensures .2) (d .step .ensures) (d .step .kept .1 .1 .1 .0) (d .step .kept .1 .1 .1 .1 .0) (c .if1 .left)
+    on (head f .loop .inv) (f .find .result) (f .find .ensures .0) (omega (arith, f .before .loop-test .taken)) (f .find .ensures .2) (d .step .ensures) (d .step .kept .1 .1 .1 .0) (d .step .kept .1 .1 .1 .1 .0) (c .if1 .left)
 
 same-length-3 : tie.Need-same-length-3 Inv-loop μ-loop
 same-length-3 c = c .before .loop .inv .sized
@@ -91,7 +91,7 @@ same-length-4 c = c .before .loop .inv .room
 returns-2 : tie.Need-returns-2 Inv-loop μ-loop
 returns-2 c =
     let l = c .before in
-    finish (l .loop .inv) (l .before .before .before .before .pre .2) (c .loop-test .left)
+    finish (l .loop .inv) (l .before .before .before .before .pre .2) (omega (arith, c .loop-test .left))
 
 pub session-spec : {M : Type 1} → statement M
 session-spec =
