@@ -69,6 +69,10 @@ fn more(input: &mut [u8], have: usize, terminal: bool) -> usize
     if got < 0 {
         say(b"line: the input can't be read\n");
     }
+    // Ctrl-D stands behind the prompt: what comes next has a line of its own.
+    if terminal && got == 0 {
+        say(b"\n");
+    }
     have + io::count(got, &input[have..])
 }
 
