@@ -33,6 +33,13 @@ read b = b .before .before .before .before .before
 abbrev ended : tie.After-do-part2 Inv-loop μ-loop → tie.After-behind-last-end Inv-loop μ-loop
 ended d = d .before .before .before .before .before .before
 
+-- the head of the turn in which the input ended, and of the loop's end, from the part that is done then
+abbrev at-end : tie.After-do-part Inv-loop μ-loop → tie.After-more Inv-loop μ-loop
+at-end d = d .before .before .before .before .before .before .before .before
+
+abbrev at-full : tie.After-do-part3 Inv-loop μ-loop → tie.At-loop Inv-loop μ-loop
+at-full d = d .before .before .before .before .before .before
+
 -- what has come then is in the input, and the input is as long as it was
 come-then : (m : tie.After-more Inv-loop μ-loop) → m .more .result ≤ length (m .more .last .0)
 come-then m = omega (arith, m .more .ensures .1, m .more .kept .0)
@@ -68,13 +75,19 @@ do-part-requires : tie.Need-do-part-requires Inv-loop μ-loop
 do-part-requires c κs = search needs
 
 same-length : tie.Need-same-length Inv-loop μ-loop
-same-length c = let m = c .before .before .before .before .before .before .before .before .before .before .before .before in m .more .kept .0 ∙ head m .loop .inv .input-same
+same-length c =
+    let m = at-end (c .before .before .before .before) in
+    m .more .kept .0 ∙ head m .loop .inv .input-same
 
 same-length-2 : tie.Need-same-length-2 Inv-loop μ-loop
-same-length-2 c = c .before .before .before .before .do-part .kept .1 .0 ∙ c .before .before .before .before .before .before .before .before .before .before .before .before .before .before .before .loop .inv .words-same
+same-length-2 c =
+    let d = c .before .before .before .before in
+    d .do-part .kept .1 .0 ∙ head (at-end d) .loop .inv .words-same
 
 same-length-3 : tie.Need-same-length-3 Inv-loop μ-loop
-same-length-3 c = c .before .before .before .before .do-part .kept .1 .1 .1 .0 ∙ c .before .before .before .before .before .before .before .before .before .before .before .before .before .before .before .loop .inv .output-same
+same-length-3 c =
+    let d = c .before .before .before .before in
+    d .do-part .kept .1 .1 .1 .0 ∙ head (at-end d) .loop .inv .output-same
 
 returns : tie.Need-returns Inv-loop μ-loop
 returns c = search needs
@@ -162,13 +175,17 @@ say-if-cut-requires : tie.Need-say-if-cut-requires Inv-loop μ-loop
 say-if-cut-requires c κs = search needs
 
 same-length-7 : tie.Need-same-length-7 Inv-loop μ-loop
-same-length-7 c = c .before .before .before .before .before .before .before .before .before .before .before .loop .inv .input-same
+same-length-7 c = at-full (c .before .before .before .before .before) .loop .inv .input-same
 
 same-length-8 : tie.Need-same-length-8 Inv-loop μ-loop
-same-length-8 c = c .before .before .before .before .before .do-part3 .kept .1 .0 ∙ c .before .before .before .before .before .before .before .before .before .before .before .loop .inv .words-same
+same-length-8 c =
+    let d = c .before .before .before .before .before in
+    d .do-part3 .kept .1 .0 ∙ at-full d .loop .inv .words-same
 
 same-length-9 : tie.Need-same-length-9 Inv-loop μ-loop
-same-length-9 c = c .before .before .before .before .before .do-part3 .kept .1 .1 .1 .0 ∙ c .before .before .before .before .before .before .before .before .before .before .before .loop .inv .output-same
+same-length-9 c =
+    let d = c .before .before .before .before .before in
+    d .do-part3 .kept .1 .1 .1 .0 ∙ at-full d .loop .inv .output-same
 
 returns-3 : tie.Need-returns-3 Inv-loop μ-loop
 returns-3 c = search needs
