@@ -22,9 +22,12 @@ module _ (s : List ℕ) (k : ℕ) (is : (k ≡ levelOf (length s)) × (k ≤ 7))
     unfolding answer
     answer-none f = sym (ap (λ (b : Bool). refuse 1 b (f (levelOf (length s)) s)) none)
 
-    pub after-none : (f : ℕ → List ℕ → List ℕ) → s ≡ after f s
+    after-none : (f : ℕ → List ℕ → List ℕ) → s ≡ after f s
     unfolding after
     after-none f = sym (ap (λ (b : Bool). cond b s (f (levelOf (length s)) s)) none)
+
+    pub none-call : (f : ℕ → List ℕ → Said) (g : ℕ → List ℕ → List ℕ) → (refused 1 ≡ answer f s) × (s ≡ after g s)
+    none-call f g = (answer-none f, after-none g)
 
   -- a level: the call is that of the map
   module _ (ne : k ≡ 7 → ⊥) where

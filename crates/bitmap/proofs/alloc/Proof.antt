@@ -2,7 +2,7 @@
 use borrow.Author.Needs.{needs}
 use mathlib.Core.Path.{refl}
 use Rattle.bitmap.specs.Calls.{allocSays, allocAfter}
-use Rattle.bitmap.proofs.Stores.{answer-none, after-none, map-fits, map-call}
+use Rattle.bitmap.proofs.Stores.{none-call, map-fits, map-call}
 use Rattle.bitmap.proofs.alloc.Statement.{statement}
 use Rattle.bitmap.proofs.alloc.Tie as tie
 
@@ -12,7 +12,7 @@ level-of-requires c κs = search needs
 returns : tie.Need-returns
 returns c =
     let l = c .before in
-    (answer-none _ _ (l .level-of .ensures) (c .if1 .taken) allocSays, after-none _ _ (l .level-of .ensures) (c .if1 .taken) allocAfter)
+    none-call _ _ (l .level-of .ensures) (c .if1 .taken) allocSays allocAfter
 
 alloc-requires : tie.Need-alloc-requires
 alloc-requires c κs =

@@ -2,7 +2,7 @@
 use borrow.Author.Needs.{needs}
 use mathlib.Core.Path.{refl}
 use Rattle.bitmap.specs.Calls.{runSays, runAfter}
-use Rattle.bitmap.proofs.Stores.{answer-none, after-none, map-fits, map-call}
+use Rattle.bitmap.proofs.Stores.{none-call, map-fits, map-call}
 use Rattle.bitmap.proofs.alloc_contiguous.Statement.{statement}
 use Rattle.bitmap.proofs.alloc_contiguous.Tie as tie
 
@@ -13,7 +13,7 @@ returns : tie.Need-returns
 returns c =
     let l = c .before in
     let a = l .before .before .args in
-    (answer-none _ _ (l .level-of .ensures) (c .if1 .taken) (runSays (a .base) (a .size) (a .align-log2)), after-none _ _ (l .level-of .ensures) (c .if1 .taken) (runAfter (a .base) (a .size) (a .align-log2)))
+    none-call _ _ (l .level-of .ensures) (c .if1 .taken) (runSays (a .base) (a .size) (a .align-log2)) (runAfter (a .base) (a .size) (a .align-log2))
 
 alloc-contiguous-requires : tie.Need-alloc-contiguous-requires
 alloc-contiguous-requires c κs =

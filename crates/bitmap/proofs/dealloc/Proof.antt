@@ -2,7 +2,7 @@
 use borrow.Author.Needs.{needs}
 use mathlib.Core.Path.{refl}
 use Rattle.bitmap.specs.Calls.{giveSays, giveAfter}
-use Rattle.bitmap.proofs.Stores.{answer-none, after-none, map-fits, map-call}
+use Rattle.bitmap.proofs.Stores.{none-call, map-fits, map-call}
 use Rattle.bitmap.proofs.dealloc.Statement.{statement}
 use Rattle.bitmap.proofs.dealloc.Tie as tie
 
@@ -13,7 +13,7 @@ returns : tie.Need-returns
 returns c =
     let l = c .before in
     let a = l .before .before .args in
-    (answer-none _ _ (l .level-of .ensures) (c .if1 .taken) (giveSays (a .key)), after-none _ _ (l .level-of .ensures) (c .if1 .taken) (giveAfter (a .key)))
+    none-call _ _ (l .level-of .ensures) (c .if1 .taken) (giveSays (a .key)) (giveAfter (a .key))
 
 dealloc-requires : tie.Need-dealloc-requires
 dealloc-requires c κs =

@@ -2,7 +2,7 @@
 use borrow.Author.Needs.{needs}
 use mathlib.Core.Path.{refl}
 use Rattle.bitmap.specs.Calls.{giveRunSays, giveRunAfter}
-use Rattle.bitmap.proofs.Stores.{answer-none, after-none, map-fits, map-call}
+use Rattle.bitmap.proofs.Stores.{none-call, map-fits, map-call}
 use Rattle.bitmap.proofs.dealloc_contiguous.Statement.{statement}
 use Rattle.bitmap.proofs.dealloc_contiguous.Tie as tie
 
@@ -13,7 +13,7 @@ returns : tie.Need-returns
 returns c =
     let l = c .before in
     let a = l .before .before .args in
-    (answer-none _ _ (l .level-of .ensures) (c .if1 .taken) (giveRunSays (a .base) (a .size)), after-none _ _ (l .level-of .ensures) (c .if1 .taken) (giveRunAfter (a .base) (a .size)))
+    none-call _ _ (l .level-of .ensures) (c .if1 .taken) (giveRunSays (a .base) (a .size)) (giveRunAfter (a .base) (a .size))
 
 dealloc-contiguous-requires : tie.Need-dealloc-contiguous-requires
 dealloc-contiguous-requires c κs =

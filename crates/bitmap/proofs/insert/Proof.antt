@@ -2,7 +2,7 @@
 use borrow.Author.Needs.{needs}
 use mathlib.Core.Path.{refl}
 use Rattle.bitmap.specs.Calls.{rangeSays, insertAfter}
-use Rattle.bitmap.proofs.Stores.{answer-none, after-none, map-fits, map-call}
+use Rattle.bitmap.proofs.Stores.{none-call, map-fits, map-call}
 use Rattle.bitmap.proofs.insert.Statement.{statement}
 use Rattle.bitmap.proofs.insert.Tie as tie
 
@@ -13,7 +13,7 @@ returns : tie.Need-returns
 returns c =
     let l = c .before in
     let a = l .before .before .args in
-    (answer-none _ _ (l .level-of .ensures) (c .if1 .taken) (rangeSays (a .start) (a .end)), after-none _ _ (l .level-of .ensures) (c .if1 .taken) (insertAfter (a .start) (a .end)))
+    none-call _ _ (l .level-of .ensures) (c .if1 .taken) (rangeSays (a .start) (a .end)) (insertAfter (a .start) (a .end))
 
 for-range-requires : tie.Need-for-range-requires
 for-range-requires c κs =

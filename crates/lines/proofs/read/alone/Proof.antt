@@ -24,11 +24,15 @@ is-requires-2 c κs = search needs
 
 returns-2 : tie.Need-returns-2
 unfolding alone
-returns-2 c = pick-no _ (c .before .before .before .before .is .ensures) (c .before .before .before .if1 .left) (pick-yes _ (c .before .is2 .ensures) (c .if2 .taken))
+returns-2 c =
+    let first = c .before .before .before in
+    pick-no _ (first .before .is .ensures) (first .if1 .left) (pick-yes _ (c .before .is2 .ensures) (c .if2 .taken))
 
 returns-3 : tie.Need-returns-3
 unfolding alone
-returns-3 c = pick-no _ (c .before .before .before .before .is .ensures) (c .before .before .before .if1 .left) (pick-no _ (c .before .is2 .ensures) (c .if2 .left) refl)
+returns-3 c =
+    let first = c .before .before .before in
+    pick-no _ (first .before .is .ensures) (first .if1 .left) (pick-no _ (c .before .is2 .ensures) (c .if2 .left) refl)
 
 pub alone-spec : {M : Type 1} → statement M
 alone-spec =

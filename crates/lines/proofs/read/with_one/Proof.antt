@@ -24,7 +24,9 @@ is-requires-2 c κs = search needs
 
 returns-2 : tie.Need-returns-2
 unfolding withOne
-returns-2 c = pick-no _ (c .before .before .before .before .is .ensures) (c .before .before .before .if1 .left) (pick-yes _ (c .before .is2 .ensures) (c .if2 .taken))
+returns-2 c =
+    let first = c .before .before .before in
+    pick-no _ (first .before .is .ensures) (first .if1 .left) (pick-yes _ (c .before .is2 .ensures) (c .if2 .taken))
 
 slice-aggregate-is-3 : tie.Need-slice-aggregate-is-3
 slice-aggregate-is-3 c = search needs
@@ -34,11 +36,17 @@ is-requires-3 c κs = search needs
 
 returns-3 : tie.Need-returns-3
 unfolding withOne
-returns-3 c = pick-no _ (c .before .before .before .before .before .before .before .is .ensures) (c .before .before .before .before .before .before .if1 .left) (pick-no _ (c .before .before .before .before .is2 .ensures) (c .before .before .before .if2 .left) (pick-yes _ (c .before .is3 .ensures) (c .if3 .taken)))
+returns-3 c =
+    let second = c .before .before .before in
+    let first = second .before .before .before in
+    pick-no _ (first .before .is .ensures) (first .if1 .left) (pick-no _ (second .before .is2 .ensures) (second .if2 .left) (pick-yes _ (c .before .is3 .ensures) (c .if3 .taken)))
 
 returns-4 : tie.Need-returns-4
 unfolding withOne
-returns-4 c = pick-no _ (c .before .before .before .before .before .before .before .is .ensures) (c .before .before .before .before .before .before .if1 .left) (pick-no _ (c .before .before .before .before .is2 .ensures) (c .before .before .before .if2 .left) (pick-no _ (c .before .is3 .ensures) (c .if3 .left) refl))
+returns-4 c =
+    let second = c .before .before .before in
+    let first = second .before .before .before in
+    pick-no _ (first .before .is .ensures) (first .if1 .left) (pick-no _ (second .before .is2 .ensures) (second .if2 .left) (pick-no _ (c .before .is3 .ensures) (c .if3 .left) refl))
 
 pub with-one-spec : {M : Type 1} → statement M
 with-one-spec =

@@ -24,7 +24,9 @@ is-requires-2 c κs = search needs
 
 returns-2 : tie.Need-returns-2
 unfolding withTwo
-returns-2 c = pick-no _ (c .before .before .before .before .is .ensures) (c .before .before .before .if1 .left) (pick-yes _ (c .before .is2 .ensures) (c .if2 .taken))
+returns-2 c =
+    let first = c .before .before .before in
+    pick-no _ (first .before .is .ensures) (first .if1 .left) (pick-yes _ (c .before .is2 .ensures) (c .if2 .taken))
 
 slice-aggregate-is-3 : tie.Need-slice-aggregate-is-3
 slice-aggregate-is-3 c = search needs
@@ -34,7 +36,10 @@ is-requires-3 c κs = search needs
 
 returns-3 : tie.Need-returns-3
 unfolding withTwo
-returns-3 c = pick-no _ (c .before .before .before .before .before .before .before .is .ensures) (c .before .before .before .before .before .before .if1 .left) (pick-no _ (c .before .before .before .before .is2 .ensures) (c .before .before .before .if2 .left) (pick-yes _ (c .before .is3 .ensures) (c .if3 .taken)))
+returns-3 c =
+    let second = c .before .before .before in
+    let first = second .before .before .before in
+    pick-no _ (first .before .is .ensures) (first .if1 .left) (pick-no _ (second .before .is2 .ensures) (second .if2 .left) (pick-yes _ (c .before .is3 .ensures) (c .if3 .taken)))
 
 slice-aggregate-is-4 : tie.Need-slice-aggregate-is-4
 slice-aggregate-is-4 c = search needs
@@ -44,7 +49,11 @@ is-requires-4 c κs = search needs
 
 returns-4 : tie.Need-returns-4
 unfolding withTwo
-returns-4 c = pick-no _ (c .before .before .before .before .before .before .before .before .before .before .is .ensures) (c .before .before .before .before .before .before .before .before .before .if1 .left) (pick-no _ (c .before .before .before .before .before .before .before .is2 .ensures) (c .before .before .before .before .before .before .if2 .left) (pick-no _ (c .before .before .before .before .is3 .ensures) (c .before .before .before .if3 .left) (pick-yes _ (c .before .is4 .ensures) (c .if4 .taken))))
+returns-4 c =
+    let third = c .before .before .before in
+    let second = third .before .before .before in
+    let first = second .before .before .before in
+    pick-no _ (first .before .is .ensures) (first .if1 .left) (pick-no _ (second .before .is2 .ensures) (second .if2 .left) (pick-no _ (third .before .is3 .ensures) (third .if3 .left) (pick-yes _ (c .before .is4 .ensures) (c .if4 .taken))))
 
 slice-aggregate-is-5 : tie.Need-slice-aggregate-is-5
 slice-aggregate-is-5 c = search needs
@@ -54,11 +63,21 @@ is-requires-5 c κs = search needs
 
 returns-5 : tie.Need-returns-5
 unfolding withTwo
-returns-5 c = pick-no _ (c .before .before .before .before .before .before .before .before .before .before .before .before .before .is .ensures) (c .before .before .before .before .before .before .before .before .before .before .before .before .if1 .left) (pick-no _ (c .before .before .before .before .before .before .before .before .before .before .is2 .ensures) (c .before .before .before .before .before .before .before .before .before .if2 .left) (pick-no _ (c .before .before .before .before .before .before .before .is3 .ensures) (c .before .before .before .before .before .before .if3 .left) (pick-no _ (c .before .before .before .before .is4 .ensures) (c .before .before .before .if4 .left) (pick-yes _ (c .before .is5 .ensures) (c .if5 .taken)))))
+returns-5 c =
+    let fourth = c .before .before .before in
+    let third = fourth .before .before .before in
+    let second = third .before .before .before in
+    let first = second .before .before .before in
+    pick-no _ (first .before .is .ensures) (first .if1 .left) (pick-no _ (second .before .is2 .ensures) (second .if2 .left) (pick-no _ (third .before .is3 .ensures) (third .if3 .left) (pick-no _ (fourth .before .is4 .ensures) (fourth .if4 .left) (pick-yes _ (c .before .is5 .ensures) (c .if5 .taken)))))
 
 returns-6 : tie.Need-returns-6
 unfolding withTwo
-returns-6 c = pick-no _ (c .before .before .before .before .before .before .before .before .before .before .before .before .before .is .ensures) (c .before .before .before .before .before .before .before .before .before .before .before .before .if1 .left) (pick-no _ (c .before .before .before .before .before .before .before .before .before .before .is2 .ensures) (c .before .before .before .before .before .before .before .before .before .if2 .left) (pick-no _ (c .before .before .before .before .before .before .before .is3 .ensures) (c .before .before .before .before .before .before .if3 .left) (pick-no _ (c .before .before .before .before .is4 .ensures) (c .before .before .before .if4 .left) (pick-no _ (c .before .is5 .ensures) (c .if5 .left) refl))))
+returns-6 c =
+    let fourth = c .before .before .before in
+    let third = fourth .before .before .before in
+    let second = third .before .before .before in
+    let first = second .before .before .before in
+    pick-no _ (first .before .is .ensures) (first .if1 .left) (pick-no _ (second .before .is2 .ensures) (second .if2 .left) (pick-no _ (third .before .is3 .ensures) (third .if3 .left) (pick-no _ (fourth .before .is4 .ensures) (fourth .if4 .left) (pick-no _ (c .before .is5 .ensures) (c .if5 .left) refl))))
 
 pub with-two-spec : {M : Type 1} → statement M
 with-two-spec =
