@@ -2,7 +2,7 @@
 -- `readSays` has, and the target at exit is what `writeAfter` or `readAfter` makes of it. Assumes nothing.
 use mathlib.Core.Path.{_≡_}
 use denote.Ref.{now}
-use Rattle.bitmap.specs.Once.{Means}
+use Rattle.bitmap.specs.Contract.{Means}
 use Rattle.image.specs.Answer.{wrote, gotten}
 use Rattle.image.specs.Calls.{writeSays, writeAfter, readSays, readAfter}
 use Rattle.image.proofs.write as write

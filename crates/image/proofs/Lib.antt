@@ -1,4 +1,4 @@
--- The laws that the functions' proofs cite, each file on those before it.
+-- The laws that the functions' proofs cite, each file on those before it; and the theorems, that they are about the code, and one answer.
 pub mod Numbers
 pub mod Starts
 pub mod InDepth

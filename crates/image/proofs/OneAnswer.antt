@@ -2,7 +2,7 @@
 -- Assumes nothing.
 use mathlib.Core.Path.{_≡_, sym, ap}
 use Rattle.bitmap.specs.Answer.{number}
-use Rattle.bitmap.specs.Once.{OneAnswer}
+use Rattle.bitmap.specs.Contract.{OneAnswer}
 use Rattle.bitmap.proofs.Numbered.{number-one, apart}
 use Rattle.bitmap.proofs.OneSaid.{once}
 use Rattle.image.specs.declared.answers.Wrote.{Wrote}

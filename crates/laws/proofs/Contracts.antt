@@ -11,7 +11,7 @@ use denote.Ref.{now}
 use Rattle.words.specs.Sizes.{levelOf}
 use Rattle.bitmap.specs.Answer.{taken, changed, told}
 use Rattle.bitmap.specs.Calls.{after}
-use Rattle.bitmap.specs.Once.{Means}
+use Rattle.bitmap.specs.Contract.{Means}
 use Rattle.laws.specs.Call as C
 use Rattle.laws.specs.Does.{Does}
 use Rattle.bitmap.proofs.alloc as alloc

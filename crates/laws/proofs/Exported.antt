@@ -8,7 +8,7 @@ use denote.Ref.{now}
 use Rattle.bitmap.specs.declared.base.Base.the-variants.{Any, At}
 use Rattle.bitmap.specs.Answer.{Said, given, refused}
 use Rattle.bitmap.specs.Calls.{answer, after}
-use Rattle.bitmap.specs.Once.{Means}
+use Rattle.bitmap.specs.Contract.{Means}
 use Rattle.image.specs.Calls.{writeSays, writeAfter, readSays, readAfter}
 use Rattle.image.proofs.Theorems.{write-refusals, read-refusals}
 use Rattle.asogeren.specs.declared.crossing.Answer.{Answer}

@@ -1,4 +1,5 @@
--- The theorems: demand 1 (Kept), what changes do to true maps (Effects, FreedRun, OneMap), demand 2 (AsSets, RunsExist, Exact, TwoWays), demand 3 (SetOrder, Order, RunsLast), one answer, P1 to P12.
+-- The theorems: demand 1 (Kept, Refused), what changes do to true maps (Effects, FreedRun, OneMap), demand 2 (AsSets, RunsExist, Exact,
+-- Lowest, TwoWays), demand 3 (SetOrder, Order, RunsLast), that they are about the code (Contracts, Exported), one answer, P1 to P12.
 pub mod Kept
 pub mod Refused
 pub mod Effects

@@ -2,7 +2,7 @@
 -- Assumes nothing.
 use mathlib.Core.Path.{refl, sym, _∙_}
 use Rattle.bitmap.specs.Answer.{taken, changed, told}
-use Rattle.bitmap.specs.Once.{OneAnswer}
+use Rattle.bitmap.specs.Contract.{OneAnswer}
 use Rattle.bitmap.proofs.OneSaid.{taken-one, changed-one, told-one, once, once-read}
 use Rattle.bitmap.proofs.number as number
 use Rattle.bitmap.proofs.number.Reads as number-reads

@@ -1,4 +1,5 @@
--- What demand 2 asks of a call: on a true map it is the call on the plain set F of free positions. Definitions only.
+-- What demand 2 asks of a call: on a true map it is the call on the plain set F of free positions; and the lowest of a set, with its
+-- quantifiers. Definitions only.
 use Prim.Native.Nat.{ℕ, _≤_, _<_}
 use mathlib.Core.Path.{_≡_}
 use mathlib.Core.Bool.{true, false}

@@ -1,4 +1,5 @@
--- The public calls as data, what each does to a plain set of positions, true maps, and the order of two maps.
+-- The public calls as data, and what the theorems say of them: what a contract comes to, a plain set of positions, the order of two maps,
+-- and document 01's examples. A reader may go through these files in this order.
 pub mod Call
 pub mod Does
 pub mod Sets

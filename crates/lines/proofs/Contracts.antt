@@ -10,7 +10,7 @@ use denote.Ref.{now}
 use Rattle.bitmap.specs.declared.answers.Refusal.{Refusal}
 use Rattle.bitmap.specs.declared.answers.Refusal.the-variants.{TooShort}
 use Rattle.bitmap.specs.Answer.{given, refused, refuse}
-use Rattle.bitmap.specs.Once.{Means}
+use Rattle.bitmap.specs.Contract.{Means}
 use Rattle.bitmap.proofs.Numbered.{apart}
 use Rattle.lines.specs.declared.Went.the-variants as W
 use Rattle.lines.specs.Session.{renewed, shortOn, printedOn, mapOn, wentOn, wordsOn, outputOn, cut, printed, says, linesSays, wordsAfter, outputAfter}

@@ -1,4 +1,5 @@
--- The laws that the functions' proofs cite.
+-- The laws that the functions' proofs cite, and the theorems: what is printed of a number (Small), parts of an input (InParts), that they
+-- are about the code (Contracts), one answer.
 pub mod Splits
 pub mod Texts
 pub mod Numbers

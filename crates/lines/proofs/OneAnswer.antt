@@ -4,7 +4,7 @@ use mathlib.Core.Path.{_≡_, sym, ap, ap₂, _∙_}
 use mathlib.Core.List.{List}
 use Prim.Native.Nat.{ℕ}
 use Rattle.bitmap.specs.Answer.{number}
-use Rattle.bitmap.specs.Once.{OneAnswer}
+use Rattle.bitmap.specs.Contract.{OneAnswer}
 use Rattle.bitmap.proofs.Numbered.{number-one, apart}
 use Rattle.lines.specs.declared.Printed.{Printed}
 use Rattle.lines.specs.declared.Printed.the-variants.{Bytes, No}

@@ -3,7 +3,7 @@
 use mathlib.Core.Path.{_≡_, refl, sym, ap, _∙_}
 use mathlib.Core.List.{List}
 use Prim.Native.Nat.{ℕ}
-use Rattle.bitmap.specs.Once.{OneAnswer}
+use Rattle.bitmap.specs.Contract.{OneAnswer}
 use Rattle.asogeren.proofs.asogeren_alloc as alloc
 use Rattle.asogeren.proofs.asogeren_alloc.Reads as alloc-reads
 use Rattle.asogeren.proofs.asogeren_alloc_contiguous as alloc-contiguous
