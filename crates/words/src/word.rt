@@ -70,14 +70,11 @@ pub fn change_borders(c: Change, w: u16, first: usize, last: usize, low: bool, h
 pub fn next(w: u16, key: usize) -> usize
     ensures { λ r. ⌜ r ≡ firstFrom (bit w) key (16 - key) ⌝ }
 {
-    let mut i = key;
-    while i < 16 {
-        if test(w, i) {
-            return i;
-        }
-        i += 1;
+    if 16 <= key {
+        return key;
     }
-    i
+    let from_key = w as usize & (65535 << key);
+    lowest(from_key as u16)
 }
 
 // The lowest set bit; 16 where there is none.

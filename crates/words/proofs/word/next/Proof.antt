@@ -1,57 +1,57 @@
--- `words::word::next` meets its contract. The loop's invariant: the search from i on answers what the search from key on does.
--- The measure is what is left of the 16 bits. Assumes nothing.
-use mathlib.Core.Path.{_≡_, refl, sym, _∙_}
-use Prim.Native.Nat.{_-_}
+-- `words::word::next` meets its contract. What it keeps is the word without its bits below key, whose lowest is the first from key on.
+-- Assumes nothing.
+use borrow.Author.Needs.{needs}
+use mathlib.Core.Path.{_≡_, sym, ap, _∙_}
+use mathlib.Core.Bool.{false, cond, _&&_}
+use Prim.Native.Nat.{ℕ, _+_, _-_, _*_, _%_, _^_, _<_}
+use native.Mathlib.Nat.{lt-of-le-of-lt}
+use native.Mathlib.Decide.{decLe}
 use native.Mathlib.Omega.{arith}
-use Rattle.words.specs.Search.{firstFrom}
-use Rattle.words.specs.Bits.{bit}
-use Rattle.words.proofs.Search.{first-at, first-on, first-end}
+use lib.Pow.{pow-lt, pow-add}
+use lib.Bits.{bitAnd, and-le-l}
+use Rattle.words.specs.declared.kind.Change.the-variants.{Remove}
+use Rattle.words.specs.Bits.{bit, within, changeWord, lowestBit}
+use Rattle.words.proofs.Tests.{and-true, and-false}
+use Rattle.words.proofs.Search.{first-end}
+use Rattle.words.proofs.Bits.{is-pack, mask-bit, and-bit}
+use Rattle.words.proofs.Within.{within-yes, within-no}
+use Rattle.words.proofs.Words.{lowest-from}
 use Rattle.words.proofs.word.next.Statement.{statement}
 use Rattle.words.proofs.word.next.Tie as tie
 
-abbrev Inv-loop : tie.InvT-loop
-Inv-loop w key i₀ i = firstFrom (bit w) i (16 - i) ≡ firstFrom (bit w) key (16 - key)
+module _ (w key : ℕ) (l : key < 16) where
+  -- the bits from key on stay
+  stays : (i : ℕ) → i < 16 → (bit w i && within key (16 + key) i) ≡ cond (within 0 key i) false (bit w i)
+  stays i u = elim (decLe key i) [
+    | yes h ↦ rw (within-yes key (16 + key) i h (omega arith), within-no 0 key i (omega arith)) (and-true (bit w i))
+    | no h ↦ rw (within-no key (16 + key) i (omega arith), within-yes 0 key i (omega arith) (omega arith)) (and-false (bit w i))
+  ]
 
-abbrev μ-loop : tie.MeasureT-loop
-μ-loop w key i₀ i = 16 - i
+  -- `w & (65535 << key)`
+  cleared : w < 2 ^ 16 → bitAnd w (65535 * 2 ^ key % 2 ^ 64) ≡ changeWord Remove w 0 key
+  cleared h = is-pack 16 _ _ (lt-of-le-of-lt (and-le-l w _) h) (λ i u. and-bit w _ i ∙ rw (mask, mask-bit key (16 + key) i) (stays i u))
+    where
+      mask : 65535 * 2 ^ key % 2 ^ 64 ≡ 2 ^ (16 + key) - 2 ^ key
+      mask = omega (arith, pow-add 2 16 key, pow-lt l)
 
-loop-holds : tie.Need-loop-holds Inv-loop μ-loop
-loop-holds c = refl
+returns : tie.Need-returns
+returns c = let a = c .before .args in sym (first-end (bit (a .w)) (a .key) 16 (c .if1 .taken))
 
-test-requires : tie.Need-test-requires Inv-loop μ-loop
-test-requires c κs = c .loop-test .taken
+shl-from-key : tie.Need-shl-from-key
+shl-from-key c = search needs
 
-returns : tie.Need-returns Inv-loop μ-loop
-returns c =
-    let at-loop = c .before .before .before in
-    sym (first-at (bit (at-loop .before .args .w)) (at-loop .loop .i) 16 (c .before .before .loop-test .taken) (sym (c .before .test .ensures) ∙ c .if1 .taken)) ∙ at-loop .loop .inv
+cast-lowest : tie.Need-cast-lowest
+cast-lowest c = record { fits = lt-of-le-of-lt (and-le-l (c .before .args .w) _) (c .before .fits .w .fits) }
 
-add-i : tie.Need-add-i Inv-loop μ-loop
-add-i c = omega arith
+lowest-requires : tie.Need-lowest-requires
+lowest-requires c κs = search needs
 
-loop-less : tie.Need-loop-less Inv-loop μ-loop
-loop-less c = omega arith
-
-loop-again : tie.Need-loop-again Inv-loop μ-loop
-loop-again c =
-    let at-loop = c .before .before .before in
-    sym (first-on (bit (at-loop .before .args .w)) (at-loop .loop .i) 16 (c .before .before .loop-test .taken) (sym (c .before .test .ensures) ∙ c .if1 .left)) ∙ at-loop .loop .inv
-
-returns-2 : tie.Need-returns-2 Inv-loop μ-loop
+returns-2 : tie.Need-returns-2
 returns-2 c =
-    let at-loop = c .before in
-    sym (first-end (bit (at-loop .before .args .w)) (at-loop .loop .i) 16 (c .loop-test .left)) ∙ at-loop .loop .inv
+    let start = c .before .before in
+    let a = start .args in
+    rw (c .lowest .ensures)
+    (ap lowestBit (cleared (a .w) (a .key) (omega arith) (start .fits .w .fits)) ∙ lowest-from (a .w) (a .key) (omega arith))
 
 pub next-spec : {M : Type 1} → statement M
-next-spec =
-    tie.close
-    (tie.spec
-    Inv-loop
-    μ-loop
-    loop-holds
-    test-requires
-    returns
-    add-i
-    loop-less
-    loop-again
-    returns-2)
+next-spec = tie.close (tie.spec returns shl-from-key cast-lowest lowest-requires returns-2)
