@@ -39,9 +39,9 @@ extern "C" {
 
 /* The version of this header, and of the library that is installed with it. CHANGELOG.md says what each version changed. */
 #define ASOGEREN_VERSION_MAJOR 0
-#define ASOGEREN_VERSION_MINOR 3
+#define ASOGEREN_VERSION_MINOR 4
 #define ASOGEREN_VERSION_PATCH 0
-#define ASOGEREN_VERSION "0.3.0"
+#define ASOGEREN_VERSION "0.4.0"
 
 /* The seven sizes: how many positions a map has, how many words, and how many bytes its image has. */
 #define ASOGEREN_BITALLOC16_CAP 16
@@ -105,7 +105,9 @@ struct asogeren_answer {
 };
 
 /*
- * Takes the lowest free position. Value: the position.
+ * Takes the lowest free position. Value: the position. From the leaf word up, a word is stored only where one of its bits is cleared:
+ * the position's in the leaf word, and a word's own bit in the word above it where that word became 0. Above the first word that did
+ * not become 0, nothing is read or stored.
  * Refusals: ASOGEREN_WORD_COUNT; ASOGEREN_NONE_FREE where the first word is 0; ASOGEREN_UNTRUE where the lowest set bits lead to a
  * word that is 0.
  */
@@ -133,7 +135,9 @@ struct asogeren_answer asogeren_alloc_contiguous_at(uint16_t *store, size_t stor
 struct asogeren_answer asogeren_next(const uint16_t *store, size_t store_count, size_t key);
 
 /*
- * Gives the position key back. Value: 0.
+ * Gives the position key back. Value: 0. Its leaf bit is set, and then, from the leaf word up, a word's bit in the word above it where
+ * that word was 0 and is not now. Above the first word that did not go so, nothing is stored: in a map whose summary bits are not true,
+ * the bits there stay as they are.
  * Refusals: ASOGEREN_WORD_COUNT; ASOGEREN_PAST_END where key is not below the positions; ASOGEREN_ALREADY_FREE where its leaf bit
  * is set.
  */

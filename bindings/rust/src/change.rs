@@ -27,7 +27,8 @@ impl<W: AsMut<[u16]>> MapOf<W> {
         Map::new(self.words.as_mut())
     }
 
-    /// Takes the lowest free position.
+    /// Takes the lowest free position. From the leaf word up, a word is stored only where one of its bits is cleared: above the
+    /// first word that did not become 0, nothing is read or stored.
     ///
     /// # Errors
     /// [`NoneFree`](Refusal::NoneFree) where the first word is 0; [`Untrue`](Refusal::Untrue) where the lowest set bits lead to a
@@ -77,18 +78,26 @@ impl<W: AsMut<[u16]>> MapOf<W> {
         .value()
     }
 
-    /// Gives the position `key` back.
+    /// Gives the position `key` back. From the leaf word up, a word's bit in the word above it is set only where that word was 0
+    /// and is not now. Above the first word that did not go so, nothing is stored: in a map whose summary bits are not true, the
+    /// bits there stay as they are.
     ///
     /// # Errors
     /// [`PastEnd`](Refusal::PastEnd) where `key` is past the end; [`AlreadyFree`](Refusal::AlreadyFree) where its leaf bit is set.
     ///
     /// ```
-    /// use asogeren::{BitAlloc16, Refusal};
+    /// use asogeren::{BitAlloc16, Map, Refusal};
     ///
     /// let mut map = BitAlloc16::NEW;
     /// assert_eq!(map.dealloc(5), Ok(()));
     /// assert_eq!(map.dealloc(5), Err(Refusal::AlreadyFree));
     /// assert_eq!(map.dealloc(16), Err(Refusal::PastEnd));
+    ///
+    /// // Not a true map: the first leaf word is not 0, and its summary bit is clear. The leaf word stays not 0, so that bit stays.
+    /// let mut words = [0; 17];
+    /// words[1] = 0b10;
+    /// assert_eq!(Map::new(&mut words).dealloc(0), Ok(()));
+    /// assert_eq!(words[..2], [0, 0b11]);
     /// ```
     pub fn dealloc(&mut self, key: usize) -> Result<(), Refusal> {
         let store = self.words.as_mut();

@@ -13,6 +13,7 @@ use Rattle.words.specs.Tree.{own, leaf?, free?, true?}
 use Rattle.words.specs.Take.{lowest}
 use Rattle.words.specs.Run.{nextIn, misfit, aligned, run?, runIn}
 use Rattle.change.specs.Change.{change}
+use Rattle.change.specs.Single.{single}
 use Rattle.change.specs.GiveBack.{firstLeaf, giveBack}
 use Rattle.bitmap.specs.declared.base.Base.{Base}
 use Rattle.bitmap.specs.declared.base.Base.the-variants.{Any, At}
@@ -72,7 +73,7 @@ abbrev pub giveSays : ℕ → ℕ → List ℕ → Said
 giveSays key k s = refuse 2 (leb (cap k) key) (refuse 6 (leaf? k s key) (given 0))
 
 abbrev pub giveAfter : ℕ → ℕ → List ℕ → List ℕ
-giveAfter key k s = settle (giveSays key k s) s (λ _. change Insert k s key (key + 1))
+giveAfter key k s = settle (giveSays key k s) s (λ _. single Insert k s key)
 
 -- ---- insert and remove
 

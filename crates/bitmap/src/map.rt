@@ -12,6 +12,7 @@ use crate::answers::Refusal;
 use crate::answers::Taken;
 use crate::answers::Told;
 use change::position;
+use change::position::Given;
 use change::range;
 use look::check;
 use look::leaf;
@@ -19,9 +20,7 @@ use look::lowest;
 use look::lowest::Lead;
 use look::next;
 use words::kind::Change;
-use words::place;
 use words::sizes;
-use words::word;
 
 // Takes the position that the lowest set bits lead to.
 fn alloc_in(k: usize, s: &mut [u16]) -> Taken
@@ -98,12 +97,10 @@ fn dealloc_in(k: usize, s: &mut [u16], key: usize) -> Changed
     if sizes::cap_of(k) <= key {
         return Changed::No(Refusal::PastEnd);
     }
-    let leaf = place::leaf_place(k, key);
-    if word::test(s[leaf], key & 15) {
-        return Changed::No(Refusal::AlreadyFree);
+    match position::give(k, s, key) {
+        Given::AlreadyFree => Changed::No(Refusal::AlreadyFree),
+        _ => Changed::Done,
     }
-    position::give(k, s, leaf, key);
-    Changed::Done
 }
 
 // The same by a table of the levels in use.

@@ -1,25 +1,22 @@
 -- The laws of a change: how it goes by a map's children, and what a change of one position is. Assumes nothing.
 use mathlib.Core.Path.{_≡_, refl, sym, ap, ap₂, _∙_}
-use mathlib.Core.Bool.{Bool, true, cond}
+use mathlib.Core.Bool.{true}
 use mathlib.Core.List.{List, [], _∷_}
-use Prim.Native.Nat.{ℕ, zero, suc, _+_, _-_, _*_, _/_, _%_, _<_, _≤_}
-use native.Mathlib.Nat.{mod-lt, div-add-mod', div-lt-iff-lt-mul}
+use Prim.Native.Nat.{ℕ, zero, suc, _+_, _-_, _*_, _/_, _%_, _<_}
+use native.Mathlib.Nat.{mod-lt, div-add-mod'}
 use native.Mathlib.Omega.{arith}
 use lib.ListN.{length, set}
-use borrow.Author.Tests.{lt-ltb}
 use Rattle.words.specs.declared.kind.Change.{Change}
-use Rattle.words.specs.declared.kind.Change.the-variants.{Insert}
-use Rattle.words.specs.Bits.{bit, within, some, changeWord}
+use Rattle.words.specs.Bits.{within, changeWord}
 use Rattle.words.specs.Sizes.{words, cap}
 use Rattle.words.specs.Tree.{own, child}
 use Rattle.change.specs.Renew.{renew}
 use Rattle.change.specs.Change.{low, high, visits, change}
-use Rattle.words.proofs.Bits.{bit-pack, some-bit}
 use Rattle.words.proofs.Levels.{cap-pos}
 use Rattle.words.proofs.Rows.{length-child}
-use Rattle.change.proofs.Spans.{visited, visited-in, first-last, high-le}
-use Rattle.words.proofs.Within.{within-yes, within-true}
-use Rattle.change.proofs.Renewed.{renew-ext, bit-renew, replaced-in, length-renew}
+use Rattle.change.proofs.Spans.{visited}
+use Rattle.words.proofs.Within.{within-true}
+use Rattle.change.proofs.Renewed.{renew-ext, length-renew}
 
 -- a change keeps the number of words
 pub length-change : (c : Change) (k : ℕ) (s : List ℕ) (a b : ℕ) → length s ≡ words k → length (change c k s a b) ≡ words k
@@ -92,18 +89,3 @@ change-one c k s p i r ei er =
         let lo : r ≡ low (cap k) p i = omega arith in
         let hi : r + 1 ≡ high (cap k) (p + 1) i = omega arith in
         ap₂ (λ (x y : ℕ). change c k (child k s i) x y) lo hi ∙ ap (changedKids c k s p (p + 1)) here
-
--- a map has a free position after an insert
-pub inserted : (k : ℕ) (s : List ℕ) (a b : ℕ) → a < b → b ≤ cap k → some (own (change Insert k s a b)) ≡ true
-unfolding change changedKids cap
-inserted zero s a b l m =
-    some-bit _ a (bit-pack 16 (λ i. cond (within a b i) true (bit (own s) i)) a (omega arith) ∙ ap (λ (t : Bool). cond t true (bit (own s) a)) (within-yes a b a (omega arith) l))
-inserted (suc k) s a b l m =
-    let i = a / cap k in
-    let new = changedKids Insert k s a b in
-    let lt : low (cap k) a i < high (cap k) b i = visited-in (cap k) (cap-pos k) a b l i (omega arith) (first-last (cap k) (cap-pos k) a b l) in
-    let on : visits (cap k) a b i ≡ true = lt-ltb _ _ lt in
-    some-bit _ i
-    (bit-renew k (visits (cap k) a b) (visits (cap k) a b) new s i (div-lt-iff-lt-mul (cap-pos k) .1 (omega arith))
-    ∙ ap₂ (λ (t : Bool) (x : List ℕ). cond t (some (own x)) (bit (own s) i)) on (replaced-in k (visits (cap k) a b) new s i on)
-    ∙ inserted k (child k s i) (low (cap k) a i) (high (cap k) b i) lt (high-le (cap k) b i))

@@ -10,11 +10,11 @@ use lib.Dec.{eqb}
 use Rattle.words.specs.declared.kind.Change.{Change}
 use Rattle.words.specs.Bits.{bit, wordOf, some, frees}
 use Rattle.words.specs.Sizes.{words, cap}
-use Rattle.words.specs.Place.{leafPlace}
+use Rattle.words.specs.Place.{leafPlace, onWay}
 use Rattle.words.specs.Tree.{own}
 use Rattle.change.specs.Change.{change}
 use Rattle.words.proofs.Levels.{words-node, words-small}
-use Rattle.words.proofs.OnWay.{part-above, onWay, on-leaf, on-up, on-lt, below}
+use Rattle.words.proofs.OnWay.{part-above, on-leaf, on-up, on-lt, below}
 use Rattle.change.proofs.Stages.{newBelow, stage, length-stage, stage-own, stage-now, stage-leaf, stage-above, stage-up}
 
 -- s₀ is the map at the start; the words s are those of stage j, and `at` is where its word stands

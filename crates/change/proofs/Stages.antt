@@ -1,26 +1,26 @@
 -- A change of one position, made word by word from the leaf word up: the words once the map of level j on the way is changed, and
 -- nothing above it is yet. Assumes nothing.
 use mathlib.Core.Path.{_≡_, refl, sym, ap, ap₂, _∙_}
-use mathlib.Core.Bool.{true, cond}
+use mathlib.Core.Bool.{cond}
 use mathlib.Core.List.{List, [], _∷_, _++_, append-assoc, append-nil}
 use Prim.Native.Nat.{ℕ, suc, _+_, _-_, _*_, _/_, _%_, _<_, _≤_}
-use native.Mathlib.Nat.{mod-lt, mod-eq-of-lt}
+use native.Mathlib.Nat.{mod-eq-of-lt}
 use native.Mathlib.Omega.{arith}
 use lib.ListN.{length, take, drop, set, getD, length-drop, take-append-drop, drop-of-length-le}
 use lib.Seq.{length-take-le, set-at, getD-at, take-take, take-add, drop-drop, drop-append-le}
 use lib.Dec.{eqb}
 use borrow.Rule.Slice.PartMut.{midOf, putMid, put-same, same-len-mid}
 use Rattle.words.specs.declared.kind.Change.{Change}
-use Rattle.words.specs.declared.kind.Change.the-variants.{Insert}
 use Rattle.words.specs.Bits.{bit, wordOf, some, frees}
 use Rattle.words.specs.Sizes.{words, cap}
 use Rattle.words.specs.Tree.{own, child, node}
 use Rattle.change.specs.Change.{change}
-use Rattle.words.proofs.Levels.{words-node, words-pos, cap-pos}
+use Rattle.words.proofs.Levels.{words-node, words-pos}
 use Rattle.words.proofs.Rows.{upd, sized-upd, own-node, length-node, length-child, part-within}
 use Rattle.words.proofs.Parts.{back, back-node}
-use Rattle.change.proofs.Changes.{length-change, inserted}
-use Rattle.words.proofs.OnWay.{onWay, rest-rest, digit-child, digit-lt, on-own, on-up, on-fits, below, on-word, below-own, below-length, below-child}
+use Rattle.change.proofs.Changes.{length-change}
+use Rattle.words.specs.Place.{onWay}
+use Rattle.words.proofs.OnWay.{rest-rest, digit-child, digit-lt, on-own, on-up, on-fits, below, on-word, below-own, below-length, below-child}
 use Rattle.change.proofs.One.{leaf-one, node-one}
 
 -- ---- a part of a list replaced
@@ -178,8 +178,3 @@ module _ (c : Change) (k : ℕ) (s : List ℕ) (p : ℕ) (len : length s ≡ wor
         ∙ node-one c j t (p % cap (suc j)) i (p % cap j) v (below-length k s p len l (suc j) h) (digit-lt j p)
         (sym (digit-child j p)) (sym (rest-rest j (suc j) p (omega arith)))
         (e ∙ ap (λ (x : List ℕ). wordOf (λ m. cond (eqb m i) (some (own x)) (bit (own t) m))) kid))
-
--- a map is not empty once a position in it is free
-pub newBelow-some : (j k : ℕ) (s : List ℕ) (p : ℕ) → some (own (newBelow Insert j k s p)) ≡ true
-unfolding newBelow
-newBelow-some j k s p = inserted j (below j k s p) (p % cap j) (p % cap j + 1) (omega arith) (omega (arith, mod-lt p (cap-pos j)))

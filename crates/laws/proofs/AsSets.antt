@@ -19,6 +19,7 @@ use Rattle.words.specs.Bits.{digit, within}
 use Rattle.words.specs.Sizes.{cap, levelOf}
 use Rattle.words.specs.Tree.{Fits, own, leaf?, free?, true?}
 use Rattle.change.specs.Change.{change}
+use Rattle.change.specs.Single.{single}
 use Rattle.change.specs.GiveBack.{firstLeaf, giveBack}
 use Rattle.bitmap.specs.Answer.{Said, given, refused, refuse}
 use Rattle.bitmap.specs.Calls.{answer, after, settle, allocSays, runSays, giveSays, giveRunSays, rangeSays}
@@ -28,6 +29,7 @@ use Rattle.words.proofs.Levels.{words-level}
 use Rattle.bitmap.proofs.Refusals.{given-on}
 use Rattle.words.proofs.Truth.{free-leaf}
 use Rattle.change.proofs.Changes.{length-change}
+use Rattle.change.proofs.TrueWay.{single-change, way-true}
 use Rattle.laws.proofs.Effects.{free-change, true-change, fits-change}
 use Rattle.look.proofs.LowestFree.{firstFree, free-none, free-some, lowest-free}
 use Rattle.change.proofs.GiveBacks.{length-giveBack}
@@ -145,9 +147,13 @@ module _ (k : ℕ) (s : List ℕ) (m : TrueMap k s) where
       let f = free? k s in
       let e : giveSays key k s ≡ setSays (dealloc key) f (cap k) =
       past (cap k) key _ _ (λ l. ap (λ (b : Bool). refuse 6 b (given 0)) (leaf-free key l)) in
-      let r = settles (giveSays key k s) (setSays (dealloc key) f (cap k)) (λ _. change Insert k s key (key + 1)) (λ _. with f key (key + 1)) e
-      (λ v _. inserts key (key + 1)) in
+      let r = settles (giveSays key k s) (setSays (dealloc key) f (cap k)) (λ _. single Insert k s key) (λ _. with f key (key + 1)) e gives in
       record { says = e; leaves = r .1; again = r .0 }
+    where
+      gives : (v : ℕ) → given v ≡ giveSays key k s → TrueMap k (single Insert k s key) × ((p : ℕ) → p < cap k → free? k (single Insert k s key) p ≡ with (free? k s) key (key + 1) p)
+      gives v e =
+          let l = leb-false (cap k) key (given-on v 2 (leb (cap k) key) _ e .0) in
+          rw (single-change Insert k s key (way-true k s key l (m .truth))) (inserts key (key + 1))
 
   -- the first free position of a run
   run-first : (base size : ℕ) → base + size ≤ cap k → firstLeaf k s base (base + size) ≡ firstFrom (free? k s) base size

@@ -1,6 +1,6 @@
 -- What the words of a true map say: F is its leaf bits, `is_empty` says that F is empty, `check` says that the map is true, a set has one
 -- true map, and a true map is never refused with 7. Assumes nothing.
-use mathlib.Core.Path.{_≡_, refl, sym, ap, _∙_}
+use mathlib.Core.Path.{_≡_, refl, sym, _∙_}
 use mathlib.Core.Bool.{Bool, true, false, not, true≢false}
 use mathlib.Core.Logic.{_↔_, _≢_, ⊎-elim}
 use mathlib.Core.List.{List, [], _∷_}
@@ -9,7 +9,7 @@ use native.Mathlib.Decide.{ℕ-discrete}
 use native.Mathlib.Omega.{arith}
 use lib.Dec.{eqb, leb}
 use lib.ListN.{length}
-use borrow.Author.Tests.{eq-eqb, ne-eqb, eqb-true, leb-false}
+use borrow.Author.Tests.{eq-eqb, eqb-true, leb-false}
 use Rattle.words.specs.Bits.{bit, digit, some}
 use Rattle.words.specs.Sizes.{cap, levelOf}
 use Rattle.words.specs.Tree.{own, child, leaf?, free?, true?}
@@ -18,6 +18,7 @@ use Rattle.bitmap.specs.Calls.{answer, emptySays, checkSays}
 use Rattle.words.proofs.Tests.{sort}
 use Rattle.bitmap.proofs.Refusals.{given-on, refused-among, given-among}
 use Rattle.words.proofs.Truth.{some-no, true-is, is-true, live, own-none, free-leaf}
+use Rattle.words.proofs.Turns.{some-yes}
 use Rattle.laws.proofs.OneMap.{one-free}
 use Rattle.laws.specs.Call.{Call, alloc, allocContiguous, next, dealloc, deallocContiguous, deallocContiguousOld, insert, remove, isEmpty, test, check, callSays}
 use Rattle.laws.specs.Sets.{lowestFrom}
@@ -54,9 +55,6 @@ pub store-empty-exactly : (s : List ℕ) → TrueStore s
 store-empty-exactly s h = rw (answer-level s (h .level) emptySays) (empty-exactly (levelOf (length s)) s (map-of s h))
 
 -- ---- check
-
-some-yes : (w : ℕ) → w ≢ 0 → some w ≡ true
-some-yes w ne = ap not (ne-eqb w 0 ne)
 
 -- a bit that is set exactly where a word is not 0 is the test of that word
 bit-some : (b : Bool) (w : ℕ) → ((b ≡ true) ↔ (w ≢ 0)) → b ≡ some w

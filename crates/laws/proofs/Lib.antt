@@ -5,11 +5,13 @@ pub mod Refused
 pub mod Effects
 pub mod FreedRun
 pub mod OneMap
+pub mod Stops
 pub mod AsSets
 pub mod RunsExist
 pub mod Exact
 pub mod Lowest
 pub mod TwoWays
+pub mod Singles
 pub mod SetOrder
 pub mod Order
 pub mod RunsLast

@@ -5,4 +5,5 @@ pub mod Does
 pub mod Sets
 pub mod AsSet
 pub mod Order
+pub mod Above
 pub mod Examples

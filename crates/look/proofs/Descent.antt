@@ -10,13 +10,13 @@ use lib.Count.{trailingZeros}
 use Rattle.words.specs.Bits.{bit, lowestBit}
 use Rattle.words.specs.Sizes.{words, cap}
 use Rattle.words.specs.Tree.{own, child}
-use Rattle.words.specs.Place.{leafPlace}
+use Rattle.words.specs.Place.{leafPlace, onWay}
 use Rattle.words.specs.Take.{lowest}
 use Rattle.words.proofs.Search.{first-is}
 use Rattle.words.proofs.Words.{lowest-is}
 use Rattle.words.proofs.Levels.{cap-node, cap-pos, cap-small, words-small}
 use Rattle.words.proofs.Rows.{part-within}
-use Rattle.words.proofs.OnWay.{onWay, on-own, on-leaf, on-up, on-lt, below, on-word, below-own, below-child}
+use Rattle.words.proofs.OnWay.{on-own, on-leaf, on-up, on-lt, below, on-word, below-own, below-child}
 use Rattle.words.proofs.Path.{child-position}
 
 -- ---- the position that the lowest set bits lead to, by the own word and the child that its lowest bit names

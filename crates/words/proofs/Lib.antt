@@ -9,6 +9,7 @@ pub mod Words
 pub mod Parts
 pub mod Path
 pub mod Truth
+pub mod Turns
 pub mod Places
 pub mod OnWay
 pub mod Index

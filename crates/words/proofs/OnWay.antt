@@ -12,10 +12,10 @@ use lib.Seq.{getD-take, getD-drop, take-take, drop-drop, take-all}
 use Rattle.words.specs.Bits.{bit}
 use Rattle.words.specs.Sizes.{words, cap}
 use Rattle.words.specs.Tree.{own, child, leaf?}
-use Rattle.words.specs.Place.{count, place, leafPlace}
+use Rattle.words.specs.Place.{count, place, leafPlace, onWay}
 use Rattle.words.proofs.Levels.{words-node, words-pos, cap-node, cap-pos, cap-pow}
 use Rattle.words.proofs.Rows.{part-within}
-use Rattle.words.proofs.Path.{leaf-child}
+use Rattle.words.proofs.Path.{position-child, leaf-child}
 use Rattle.words.proofs.Places.{cap-count, place-step, place-within}
 
 -- what holds at level k, and at each level where it holds at the next, holds at each level up to k
@@ -53,10 +53,6 @@ part-above j p = div-div-eq-div-mul p (cap j) 16 ∙ ap (λ (n : ℕ). p / n) (m
 
 -- ---- where the word stands
 
--- the index of the word of level j on the way to position p, in a map of level k: the leaf word at j = 0, the own word at j = k
-unfoldable pub onWay : ℕ → ℕ → ℕ → ℕ
-onWay j k p = place j (k - j) (p / cap j)
-
 pub on-own : (k p : ℕ) → onWay k k p ≡ 0
 unfolding onWay place
 on-own k p = let none : k - k ≡ 0 = omega arith in rw none
@@ -72,6 +68,17 @@ unfolding onWay
 on-up j k p h =
     let up : k - j ≡ suc (k - suc j) = omega arith in
     rw (up, place-step j (k - suc j) (p / cap j), part-above j p)
+
+-- a digit in a part
+digit-rest : (j k p : ℕ) → j < k → p % cap k / cap j % 16 ≡ p / cap j % 16
+digit-rest j k p h = sym (digit-child j (p % cap k)) ∙ ap (λ (r : ℕ). r / cap j) (rest-rest (suc j) k p h) ∙ digit-child j p
+
+-- by the child that has the position
+pub on-child : (k p : ℕ) → p < cap (suc k) → (j : ℕ) → j ≤ k → onWay j (suc k) p ≡ 1 + p / cap k * words k + onWay j k (p % cap k)
+on-child k p l = descend (λ (j : ℕ). onWay j (suc k) p ≡ 1 + p / cap k * words k + onWay j k (p % cap k)) k
+    (let digit : p / cap k % 16 ≡ p / cap k = mod-eq-of-lt (position-child {j = k} p refl l) in
+    on-up k (suc k) p (omega arith) ∙ rw (on-own, on-own, digit) (omega arith))
+    (λ j h e. on-up j (suc k) p (omega arith) ∙ rw (e, on-up j k (p % cap k) h, digit-rest j k p h) (omega arith))
 
 module _ (j k p : ℕ) (h : j ≤ k) (l : p < cap k) where
   number-lt : p / cap j < count (k - j)

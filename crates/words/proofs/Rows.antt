@@ -23,9 +23,16 @@ pub upd-same : {A : Type 0} (f : ℕ → A) (i : ℕ) (v : A) → upd f i v i �
 unfolding upd
 upd-same f i v = rw (eq-eqb i i refl)
 
-upd-other : {A : Type 0} (f : ℕ → A) (i : ℕ) (v : A) (j : ℕ) → (j ≡ i → ⊥) → upd f i v j ≡ f j
+pub upd-other : {A : Type 0} (f : ℕ → A) (i : ℕ) (v : A) (j : ℕ) → (j ≡ i → ⊥) → upd f i v j ≡ f j
 unfolding upd
 upd-other f i v j h = rw (ne-eqb j i h)
+
+-- what stood there before
+pub upd-kept : {A : Type 0} (f : ℕ → A) (i j : ℕ) → upd f i (f i) j ≡ f j
+upd-kept f i j = elim (ℕ-discrete j i) [
+  | yes e ↦ rw e (upd-same f i (f i))
+  | no ne ↦ upd-other f i (f i) j ne
+]
 
 -- a list more of one length
 pub sized-upd : (f : ℕ → List ℕ) (i : ℕ) (ys : List ℕ) {w n : ℕ} → length ys ≡ w → ((j : ℕ) → j < n → length (f j) ≡ w)

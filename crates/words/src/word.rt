@@ -1,11 +1,14 @@
 // BitAlloc16: one word of 16 positions, of which a set bit is a free one.
 ghost use mathlib.Core.Path.{_≡_};
-ghost use mathlib.Core.Bool.{false, cond};
+ghost use mathlib.Core.Bool.{true, false, cond};
 ghost use lib.Dec.{eqb};
 ghost use Prim.Native.Nat.{_+_, _-_, _≤_, _<_};
 ghost use Rattle.words.specs.Search.{firstFrom, none};
 ghost use Rattle.words.specs.Bits.{bit, wordOf, within, frees, changeWord, lowestBit};
+ghost use Rattle.words.specs.Turn.{turned};
 use crate::kind::Change;
+use crate::turn::Turn;
+use crate::turn::Turned;
 
 // Whether bit i is set.
 pub fn test(w: u16, i: usize) -> bool
@@ -84,10 +87,38 @@ pub fn lowest(w: u16) -> usize
     u16::trailing_zeros(w) as usize
 }
 
-// The word without its lowest set bit.
-pub fn without_lowest(w: u16) -> u16
+// A single take: the word without its lowest set bit, and how it turned.
+pub fn take(w: u16) -> Turned
     requires { ⌜ 0 < w ⌝ }
-    ensures { λ r. ⌜ r ≡ wordOf (λ j. cond (eqb j (lowestBit w)) false (bit w j)) ⌝ }
+    ensures { λ r. ⌜ r ≡ turned w (wordOf (λ j. cond (eqb j (lowestBit w)) false (bit w j))) ⌝ }
 {
-    w & (w - 1)
+    let word = w & (w - 1);
+    if word == 0 {
+        return Turned {
+            word,
+            turn: Turn::BecameEmpty,
+        };
+    }
+    Turned {
+        word,
+        turn: Turn::Stayed,
+    }
+}
+
+// A single give-back: the word with bit i set, and how it turned.
+pub fn give(w: u16, i: usize) -> Turned
+    requires { ⌜ i < 16 ⌝ }
+    ensures { λ r. ⌜ r ≡ turned w (wordOf (λ j. cond (eqb j i) true (bit w j))) ⌝ }
+{
+    let word = w | (1u16 << i);
+    if w == 0 {
+        return Turned {
+            word,
+            turn: Turn::BecameNotEmpty,
+        };
+    }
+    Turned {
+        word,
+        turn: Turn::Stayed,
+    }
 }

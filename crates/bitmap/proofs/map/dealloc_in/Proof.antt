@@ -1,29 +1,22 @@
--- `bitmap::map::dealloc_in` meets its contract: the leaf bit is looked at, and then set with those above it. Assumes nothing.
+-- `bitmap::map::dealloc_in` meets its contract: what the give-back found says whether it is refused. Assumes nothing.
 use borrow.Author.Needs.{needs}
-use mathlib.Core.Path.{_≡_, _∙_}
-use Prim.Native.Nat.{_<_}
+use mathlib.Core.Path.{_≡_}
+use mathlib.Core.Logic.{⊎-elim}
+use Prim.Native.Nat.{ℕ}
 use native.Mathlib.Omega.{arith}
-use Rattle.words.specs.Sizes.{cap}
-use Rattle.words.specs.Tree.{leaf?}
-use Rattle.words.proofs.Levels.{words-small}
-use Rattle.words.proofs.Index.{low-lt}
-use Rattle.bitmap.proofs.GiveOne.{give-past, give-free, give-taken, tested}
+use Rattle.words.specs.Tree.{Fits}
+use Rattle.change.specs.declared.position.Given.the-variants.{AlreadyFree}
+use Rattle.bitmap.proofs.GiveOne.{give-past, give-free, give-taken}
 use Rattle.bitmap.proofs.map.dealloc_in.Statement.{statement}
 use Rattle.bitmap.proofs.map.dealloc_in.Tie as tie
 
--- the leaf bit that was looked at
-module _ (c : tie.After-test) where
-  abbrev place : tie.After-leaf-place
-  place = c .before .before
-
+-- the position is in the map, and was given back or found free
+module _ (c : tie.After-give) where
   abbrev start : tie.Start
-  start = place .before .before .before .before
+  start = c .before .before .before .before .before
 
-  inside : start .args .key < cap (start .args .k)
-  inside = omega arith
-
-  leaf-bit : leaf? (start .args .k) (start .args .s .now) (start .args .key) ≡ c .test .result
-  leaf-bit = tested _ _ _ inside (start .pre .1) (place .leaf-place .ensures .0) (c .test .ensures)
+  fits : Fits (start .args .s .now)
+  fits i = c .before .before .before .before .slice-known .given i .fits
 
 cap-of-requires : tie.Need-cap-of-requires
 cap-of-requires c κs = search needs
@@ -31,34 +24,29 @@ cap-of-requires c κs = search needs
 returns : tie.Need-returns
 returns c = let a = c .before .before .before .args in give-past (a .key) (a .k) _ (omega arith)
 
-leaf-place-requires : tie.Need-leaf-place-requires
-leaf-place-requires c κs = search needs
-
-mul-test : tie.Need-mul-test
-mul-test c = omega (arith, words-small (c .before .before .before .before .args .k) (omega arith))
-
-slice-read-test : tie.Need-slice-read-test
-slice-read-test c = search needs
-
-test-requires : tie.Need-test-requires
-test-requires c κs = low-lt (c .before .before .before .before .before .args .key)
-
-returns-2 : tie.Need-returns-2
-returns-2 c = give-free _ _ _ (inside (c .before)) (leaf-bit (c .before) ∙ c .if2 .taken)
-
 give-requires : tie.Need-give-requires
-give-requires c κs =
-    let t = c .before .before in
-    (start t .pre .0, start t .pre .1, inside t, place t .leaf-place .ensures .0)
+give-requires c κs = search needs
+
+enum-told : tie.Need-enum-told
+enum-told c = search needs
 
 same-length : tie.Need-same-length
 same-length c = search needs
 
+returns-2 : tie.Need-returns-2
+returns-2 c =
+    let g = c .before .before .before .before in
+    give-free _ _ _ (omega arith) (start g .pre .1) (fits g) (g .give .ensures .0) (g .give .ensures .1) (c .enum-told .given .1)
+
+same-length-2 : tie.Need-same-length-2
+same-length-2 c = search needs
+
 returns-3 : tie.Need-returns-3
 returns-3 c =
-    let g = c .before .before in
-    let e = g .before .before in
-    give-taken _ _ _ (inside (e .before)) (leaf-bit (e .before) ∙ e .if2 .left) (g .give .ensures)
+    let g = c .before .before .before in
+    let taken : g .give .result ≡ AlreadyFree → ⊥ =
+    λ e. ⊎-elim (λ (z : _≡_ {A = ℕ} 0 1). omega arith) (λ (z : _≡_ {A = ℕ} 0 2). omega arith) (rw e at (c .match .keys2)) in
+    give-taken _ _ _ (omega arith) (start g .pre .1) (fits g) (g .give .ensures .0) (g .give .ensures .1) taken
 
 pub dealloc-in-spec : {M : Type 1} → statement M
 dealloc-in-spec =
@@ -66,11 +54,9 @@ dealloc-in-spec =
     (tie.spec
     cap-of-requires
     returns
-    leaf-place-requires
-    mul-test
-    slice-read-test
-    test-requires
-    returns-2
     give-requires
+    enum-told
     same-length
+    returns-2
+    same-length-2
     returns-3)
