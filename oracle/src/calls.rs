@@ -11,6 +11,18 @@ pub fn words(n: usize) -> usize {
     (0..n).fold(0, |w, _| 1 + 16 * w)
 }
 
+/// The words on the way down to a position, the map's own first, each with the position's bit in it.
+pub fn way(n: usize, p: u64) -> Vec<(usize, u16)> {
+    let mut at = 0;
+    let mut way = Vec::new();
+    for level in (1..=n).rev() {
+        let i = p % positions(level) / positions(level - 1);
+        way.push((at, 1 << i));
+        at += 1 + i as usize * words(level - 1);
+    }
+    way
+}
+
 #[derive(Clone, Copy, PartialEq, Eq, Debug, PartialOrd, Ord)]
 pub enum Call {
     Alloc,

@@ -64,10 +64,7 @@ fn table(r: &Runs) {
     println!("\nThe same on untrue maps:\n");
     println!("| call | answer | n = 1 | n = 2 | n = 3 |\n|---|---|---|---|---|");
     for call in ALL {
-        for class in paper::classes(call, 2)
-            .iter()
-            .chain(if call == Alloc { &[paper::Untrue][..] } else { &[] })
-        {
+        for class in paper::classes(call, 2).iter().chain(paper::untrue_classes(call)) {
             println!(
                 "| {} | {} | {} |",
                 call.name(),
@@ -77,9 +74,9 @@ fn table(r: &Runs) {
         }
     }
     println!(
-        "\nWhat the crate did outside the domain of equality, where ours refuses and changes nothing (smallest input met):\n"
+        "\nWhat the crate did outside the domain, where ours refuses and changes nothing, or sets fewer bits (smallest input met):\n"
     );
-    println!("| call | refusal | n | the crate | times | smallest |\n|---|---|---|---|---|---|");
+    println!("| call | ours | n | the crate | times | smallest |\n|---|---|---|---|---|---|");
     for ((call, class, one, did), (times, least)) in &r.tally.outside {
         println!(
             "| {} | {class} | {} | {did} | {times} | {} |",
@@ -106,7 +103,7 @@ fn main() -> ExitCode {
                 plant = args
                     .next()
                     .and_then(|name| Plant::named(&name))
-                    .expect("answer, leaf, summary or whole after --plant")
+                    .expect("answer, leaf, summary, whole or way after --plant")
             }
             "--quick" => less = 20,
             "--record" => folder = args.next(),

@@ -1,7 +1,8 @@
-//! The map and the image as document 01 says them, and the run give-back that is all or nothing as request (vii) does, written from
-//! these alone: the words are a list, each rule is a loop over positions, levels or words, and nothing is clever. It is the judge of
-//! what the Rust crate has not (that give-back, wrong word counts, the check, the image), and can stand in the place of our side
-//! (`compare --model`), so that it is itself held against the crate.
+//! The map and the image as document 01 says them, the single give-back as request (iii) amends it, and the run give-back that is all or
+//! nothing as request (vii) says it, written from these alone: the words are a list, each rule is a loop over positions, levels or
+//! words, and nothing is clever. It is the judge of what the Rust crate has not (that run give-back, wrong word counts, the check, the
+//! image) and of a single give-back on an untrue map, and can stand in the place of our side (`compare --model`), so that it is itself
+//! held against the crate.
 
 /// A value, or the number of a refusal.
 pub type Said = Result<u64, u64>;
@@ -180,8 +181,13 @@ pub fn dealloc(s: &mut [u16], key: u64) -> Said {
     if leaf(s, n, key) {
         return Err(6);
     }
-    for d in 0..n {
+    for d in (0..n).rev() {
+        let was_empty = s[place(n, d, key)] == 0;
         put(s, n, d, key, true);
+        // the word went neither from empty to not empty nor back, so nothing above it changes
+        if !was_empty {
+            break;
+        }
     }
     Ok(0)
 }

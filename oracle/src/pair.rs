@@ -3,7 +3,7 @@
 use crate::calls::*;
 use crate::oracle::{self, Map, Outcome};
 use crate::order::Order;
-use crate::paper::{self, Class, CLASSES};
+use crate::paper::{self, Class, Done, StopsAbove, StopsAtLeaf, CLASSES};
 use crate::plant::Plant;
 use crate::sides::{model, ours, Answer};
 use std::collections::BTreeMap;
@@ -133,7 +133,7 @@ impl Pair {
         }
         let changed = self.ours != self.before;
         let outside = paper::outside(o, self.n);
-        let class = paper::class(o, self.n, answer, self.before[0], changed);
+        let mut class = paper::class(o, self.n, answer, self.before[0], changed);
         if outside || theirs == Outcome::Panic {
             if changed {
                 return Err(format!(
@@ -155,8 +155,8 @@ impl Pair {
                 self.keep_outside(o, class, self.did(theirs), tally);
             }
             self.order.set(self.theirs.words_mut(), &self.before);
-        } else if self.maps == Maps::Untrue && o.call == Dealloc && theirs == Outcome::Bool(false) {
-            self.refused_dealloc(o, class, tally)?;
+        } else if self.maps == Maps::Untrue && o.call == Dealloc {
+            class = self.untrue_dealloc(o, answer, class, tally)?;
         } else if let Some(i) = self.order.difference(self.theirs.words(), &self.ours) {
             return Err(format!(
                 "word {i} is {:#06x} in the crate and {:#06x} in ours",
@@ -173,18 +173,7 @@ impl Pair {
     fn judged(&mut self, o: &Op, tally: &mut Tally) -> Result<Answer, String> {
         let mut answer = ours(o, &mut self.ours);
         self.plant.change(o, self.n, &self.before, &mut answer, &mut self.ours);
-        self.model.copy_from_slice(&self.before);
-        let want = model(o, &mut self.model);
-        if answer != want {
-            return Err(format!("the model says {want}; ours says {answer}"));
-        }
-        if self.ours != self.model {
-            let i = (0..).find(|i| self.ours[*i] != self.model[*i]).unwrap();
-            return Err(format!(
-                "both say {want}; word {i} is {:#06x} in the model and {:#06x} in ours",
-                self.model[i], self.ours[i]
-            ));
-        }
+        self.beside_model(o, answer)?;
         self.old.copy_from_slice(&self.before);
         let old = ours(&op(DeallocRunOld, o.numbers()), &mut self.old);
         if old != answer || answer.refusal == 0 && self.old != self.ours {
@@ -197,6 +186,23 @@ impl Pair {
         }
         self.met(o, class, changed, tally);
         Ok(answer)
+    }
+
+    /// Ours has to answer what the model does, and to leave its words.
+    fn beside_model(&mut self, o: &Op, answer: Answer) -> Result<(), String> {
+        self.model.copy_from_slice(&self.before);
+        let want = model(o, &mut self.model);
+        if answer != want {
+            return Err(format!("the model says {want}; ours says {answer}"));
+        }
+        if self.ours != self.model {
+            let i = (0..).find(|i| self.ours[*i] != self.model[*i]).unwrap();
+            return Err(format!(
+                "both say {want}; word {i} is {:#06x} in the model and {:#06x} in ours",
+                self.model[i], self.ours[i]
+            ));
+        }
+        Ok(())
     }
 
     /// Counts a call that was made and was the same on both sides, and goes on from its words.
@@ -212,32 +218,42 @@ impl Pair {
         }
     }
 
-    /// The listed difference: a refused dealloc sets each summary bit above its key in the crate, and none in ours. The crate's map
-    /// has to be exactly that, and is then set back to ours.
-    fn refused_dealloc(&mut self, o: &Op, class: Class, tally: &mut Tally) -> Result<(), String> {
-        let key = o.args[0];
-        if self.ours != self.before {
-            return Err("a refused dealloc changed words of ours".to_string());
-        }
-        let mut theirs = self.before.clone();
-        let mut at = 0;
-        for d in 0..self.n - 1 {
-            let i = key % positions(self.n - d) / positions(self.n - d - 1);
-            theirs[at] |= 1 << i;
-            at += 1 + i as usize * words(self.n - d - 1);
+    /// The listed differences of a dealloc on an untrue map. The crate sets each bit on the way to its key, also where it refuses. Ours
+    /// keeps the words above the lowest one on the way that was not 0, since that one goes neither way. Both maps have to be exactly
+    /// so, and the crate's is then set to ours. Where the two differ, the class says at what word ours stopped.
+    fn untrue_dealloc(&mut self, o: &Op, answer: Answer, class: Class, tally: &mut Tally) -> Result<Class, String> {
+        self.beside_model(o, answer)?;
+        let way = way(self.n, o.args[0]);
+        let stop = way.iter().rposition(|(at, _)| self.before[*at] != 0).unwrap_or(0);
+        let (mut theirs, mut want) = (self.before.clone(), self.before.clone());
+        for (depth, (at, bit)) in way.into_iter().enumerate() {
+            theirs[at] |= bit;
+            if depth >= stop {
+                want[at] |= bit;
+            }
         }
         if let Some(i) = self.order.difference(self.theirs.words(), &theirs) {
             return Err(format!(
-                "after a refused dealloc word {i} is {:#06x} in the crate, where its way would make it {:#06x}",
+                "after a dealloc word {i} is {:#06x} in the crate, where its way would make it {:#06x}",
                 self.order.word(self.theirs.words(), i),
                 theirs[i]
             ));
         }
-        if theirs != self.before {
-            self.keep_outside(o, class, "false, and summary bits above the key set".to_string(), tally);
-            self.order.set(self.theirs.words_mut(), &self.before);
+        // with --model the model stands in our place, and only this holds it
+        if self.ours != want {
+            return Err("ours goes on above a word that went neither way, or stops below it".to_string());
         }
-        Ok(())
+        if theirs == want {
+            return Ok(class);
+        }
+        let (class, said) = match class {
+            Done if stop == self.n - 1 => (StopsAtLeaf, "true"),
+            Done => (StopsAbove, "true"),
+            _ => (class, "false"),
+        };
+        self.keep_outside(o, class, format!("{said}, and summary bits above the key set"), tally);
+        self.order.set(self.theirs.words_mut(), &self.ours);
+        Ok(class)
     }
 
     /// What the crate did, and whether it changed words.

@@ -101,11 +101,13 @@ pub enum Class {
     EarlierFreed,
     EarlierKept,
     Untrue,
+    StopsAtLeaf,
+    StopsAbove,
 }
 
 pub use Class::*;
 
-pub const CLASSES: usize = 18;
+pub const CLASSES: usize = 20;
 
 impl Class {
     pub fn name(self) -> &'static str {
@@ -128,6 +130,8 @@ impl Class {
             EarlierFreed => "6 earlier words freed",
             EarlierKept => "6 where the old way changes words",
             Untrue => "7 a 0 word below a set bit",
+            StopsAtLeaf => "done, and the crate sets bits above the leaf word",
+            StopsAbove => "done, and the crate sets bits above a summary word",
         }
     }
 }
@@ -146,6 +150,15 @@ pub fn classes(call: Call, n: usize) -> &'static [Class] {
         Insert | Remove => &[Done, Reversed, PastEnd, NoSize],
         IsEmpty => &[Yes, Not],
         Test => &[Yes, Not, PastEnd],
+    }
+}
+
+/// And those that they can have on an untrue map only.
+pub fn untrue_classes(call: Call) -> &'static [Class] {
+    match call {
+        Alloc => &[Untrue],
+        Dealloc => &[StopsAtLeaf, StopsAbove],
+        _ => &[],
     }
 }
 

@@ -14,6 +14,8 @@ pub enum Plant {
     Summary,
     /// a run give-back that should be all or nothing frees the lower part before it refuses, as the old way does
     Whole,
+    /// a give-back of one position sets each bit on its way, as the crate does: seen on untrue maps alone
+    Way,
 }
 
 impl Plant {
@@ -23,6 +25,7 @@ impl Plant {
             "leaf" => Some(Plant::Leaf),
             "summary" => Some(Plant::Summary),
             "whole" => Some(Plant::Whole),
+            "way" => Some(Plant::Way),
             _ => None,
         }
     }
@@ -38,21 +41,15 @@ impl Plant {
             }
             (Plant::Leaf, Insert, 0) if o.args[1] % 256 == 1 && o.args[1] > 256 => {
                 let p = o.args[1] - 1;
-                let at = leaf_word(n, p);
-                store[at] = store[at] & !(1 << (p % 16)) | before[at] & (1 << (p % 16));
+                let (at, bit) = way(n, p)[n - 1];
+                store[at] = store[at] & !bit | before[at] & bit;
             }
             (Plant::Summary, Dealloc, 0) if o.args[0] / child == 15 && before[0] >> 15 == 0 => store[0] &= 0x7fff,
             (Plant::Whole, DeallocRun, 6) => {
                 ours(&op(DeallocRunOld, o.numbers()), store);
             }
+            (Plant::Way, Dealloc, 0) => way(n, o.args[0]).into_iter().for_each(|(at, bit)| store[at] |= bit),
             _ => {}
         }
     }
-}
-
-/// Where the leaf word of a position stands.
-pub fn leaf_word(n: usize, p: u64) -> usize {
-    (0..n - 1).fold(0, |at, d| {
-        at + 1 + (p % positions(n - d) / positions(n - d - 1)) as usize * words(n - d - 1)
-    })
 }

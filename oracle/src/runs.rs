@@ -262,12 +262,14 @@ impl Runs {
         self.say(&format!("n = {n}: about {calls} calls on untrue maps"));
         let mut rng = Rng::new(self.seed, 400 + n as u64);
         let mut pair = self.pair(n, Maps::Untrue);
-        // the smallest: a bit that leads to nothing, and a free position that no bit leads to
+        // the smallest: a bit that leads to nothing, and a free position that no bit leads to, the one given back or the one beside it
         for at in 0..words(n).min(3) {
-            let mut start = vec![0; words(n)];
-            start[at] = 1;
-            for call in [Alloc, Dealloc] {
-                self.list(&mut pair, Maps::Untrue, &start, &[op(call, &[0][..call.arity()])])?;
+            for word in [1, 2] {
+                let mut start = vec![0; words(n)];
+                start[at] = word;
+                for o in [op(Alloc, &[]), op(Dealloc, &[0])] {
+                    self.list(&mut pair, Maps::Untrue, &start, &[o])?;
+                }
             }
         }
         let mut done = 0;
