@@ -107,7 +107,7 @@ struct asogeren_answer {
 /*
  * Takes the lowest free position. Value: the position. From the leaf word up, a word is stored only where one of its bits is cleared:
  * the position's in the leaf word, and a word's own bit in the word above it where that word became 0. Above the first word that did
- * not become 0, nothing is read or stored.
+ * not become 0, nothing is stored.
  * Refusals: ASOGEREN_WORD_COUNT; ASOGEREN_NONE_FREE where the first word is 0; ASOGEREN_UNTRUE where the lowest set bits lead to a
  * word that is 0.
  */

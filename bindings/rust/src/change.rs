@@ -28,7 +28,7 @@ impl<W: AsMut<[u16]>> MapOf<W> {
     }
 
     /// Takes the lowest free position. From the leaf word up, a word is stored only where one of its bits is cleared: above the
-    /// first word that did not become 0, nothing is read or stored.
+    /// first word that did not become 0, nothing is stored.
     ///
     /// # Errors
     /// [`NoneFree`](Refusal::NoneFree) where the first word is 0; [`Untrue`](Refusal::Untrue) where the lowest set bits lead to a

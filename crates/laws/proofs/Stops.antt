@@ -52,6 +52,9 @@ module _ (c : Change) (k : ℕ) (s : List ℕ) (p : ℕ) (len : length s ≡ wor
   on-way : (j : ℕ) → j ≤ k → (t : List ℕ) → getD t (onWay j (suc k) p) 0 ≡ getD (child k t at) (onWay j k (p % cap k)) 0
   on-way j h t = ap (λ (i : ℕ). getD t i 0) (on-child k p l j h) ∙ word-child k t at _ (on-lt j k (p % cap k) h (mod-lt p (cap-pos k)))
 
+  in-map : (j r : ℕ) → j ≤ k → r ≡ onWay j k (p % cap k) → 1 + at * words k + r ≡ onWay j (suc k) p
+  in-map j r h e = ap (λ (x : ℕ). 1 + at * words k + x) e ∙ sym (on-child k p l j h)
+
   neither-below : (j : ℕ) → j ≤ k → NeitherWay j (suc k) p s after → NeitherWay j k (p % cap k) (old c k s p) (new c k s p)
   neither-below j h e =
       let w = onWay j k (p % cap k) in
@@ -59,11 +62,14 @@ module _ (c : Change) (k : ℕ) (s : List ℕ) (p : ℕ) (len : length s ≡ wor
 
   -- where it is so of the child
   module _ (below : (j : ℕ) → j ≤ k → (j < k → NeitherWay j k (p % cap k) (old c k s p) (new c k s p)) → SameAbove j k (p % cap k) (old c k s p) (new c k s p)) where
-    -- the child did not turn
+    -- its own word stays above the one that went neither way, and so it did not turn
+    own-below : (j : ℕ) → j < k → NeitherWay j (suc k) p s after → own (new c k s p) ≡ own (old c k s p)
+    own-below j lt e = below j (omega arith) (λ _. neither-below j (omega arith) e) 0 (λ m b z. omega (arith, on-up m k (p % cap k) (omega arith)))
+
     turned-not : (j : ℕ) → j ≤ k → NeitherWay j (suc k) p s after → turns (old c k s p) (new c k s p) ≡ false
     turned-not j h e = ⊎-elim
         (λ (top : j ≡ k). ap goes (rw (top, on-own) at (neither-below j h e)))
-        (λ (lt : j < k). ap goes (ap (turn (own (old c k s p))) (below j h (λ _. neither-below j h e) 0 (λ m b z. omega (arith, on-up m k (p % cap k) (omega arith)))) ∙ turn-same _))
+        (λ (lt : j < k). ap goes (ap (turn (own (old c k s p))) (own-below j lt e) ∙ turn-same _))
         (eq-or-lt-of-le h)
 
     own-after : (j : ℕ) → j ≤ k → NeitherWay j (suc k) p s after → own after ≡ own s
@@ -73,9 +79,8 @@ module _ (c : Change) (k : ℕ) (s : List ℕ) (p : ℕ) (len : length s ≡ wor
     word-at : (j r : ℕ) → j ≤ suc k → (j < suc k → NeitherWay j (suc k) p s after)
         → ((m : ℕ) → m ≤ j → 1 + at * words k + r ≢ onWay m (suc k) p) → getD (new c k s p) r 0 ≡ getD (old c k s p) r 0
     word-at j r h e off = ⊎-elim
-        (λ (top : j ≡ suc k). below k (omega arith) (λ lt. absurd (omega arith)) r (λ m b z. off m (omega arith) (ap (λ (x : ℕ). 1 + at * words k + x) z ∙ sym (on-child k p l m b))))
-        (λ (lt : j < suc k). below j (omega arith) (λ _. neither-below j (omega arith) (e lt)) r
-        (λ m b z. off m b (ap (λ (x : ℕ). 1 + at * words k + x) z ∙ sym (on-child k p l m (omega arith)))))
+        (λ (top : j ≡ suc k). below k (omega arith) (λ lt. absurd (omega arith)) r (λ m b z. off m (omega arith) (in-map m r b z)))
+        (λ (lt : j < suc k). below j (omega arith) (λ _. neither-below j (omega arith) (e lt)) r (λ m b z. off m b (in-map m r (omega arith) z)))
         (eq-or-lt-of-le h)
 
     -- a word of child m
@@ -107,7 +112,9 @@ module _ (c : Change) (k : ℕ) (s : List ℕ) (p : ℕ) (len : length s ≡ wor
         ]
 
 -- each word but those of the levels 0 to j on the way to p, where the word of level j went neither way or is the own word
-pub single-above : (c : Change) (k : ℕ) (s : List ℕ) (p j : ℕ) → length s ≡ words k → Fits s → p < cap k → j ≤ k → (j < k → NeitherWay j k p s (single c k s p)) → SameAbove j k p s (single c k s p)
+pub single-above : (c : Change) (k : ℕ) (s : List ℕ) (p j : ℕ) → length s ≡ words k → Fits s → p < cap k → j ≤ k
+    → (j < k → NeitherWay j k p s (single c k s p))
+    → SameAbove j k p s (single c k s p)
 unfolding words
 single-above c zero s p j len fits l h e i off =
     let z : i ≢ 0 = λ z. off 0 (omega arith) (z ∙ sym (on-own 0 p)) in
