@@ -1,5 +1,6 @@
--- The theorems: demand 1 (Kept, Refused), what changes do to true maps (Effects, FreedRun, OneMap), demand 2 (AsSets, RunsExist, Exact,
--- Lowest, TwoWays), demand 3 (SetOrder, Order, RunsLast), that they are about the code (Contracts, Exported), one answer, P1 to P12.
+-- The theorems: demand 1 (Kept, Refused), what changes do to true maps (Effects, FreedRun, OneMap), what a single change leaves alone
+-- (Stops, Singles), demand 2 (AsSets, RunsExist, Exact, Lowest, TwoWays), demand 3 (SetOrder, Order, RunsLast), that they are about the code
+-- (Contracts, Exported), one answer, P1 to P12.
 pub mod Kept
 pub mod Refused
 pub mod Effects
