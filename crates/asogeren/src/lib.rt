@@ -1,5 +1,7 @@
 // The C library: an exported function for each public call of the map and of the image, with the call's own definitions in its contract.
 // include/asogeren.h declares them for C. Every one is total: it takes any words, bytes and numbers.
+#![tactic(auto)]
+
 ghost use Rattle.std.specs.Prelude.{◌≡◌};
 ghost use Rattle.bitmap.specs.declared.base.Base.TheVariants.{Any, At};
 ghost use Rattle.bitmap.specs.Calls.{answer, after, alloc_says, alloc_after, run_says, run_after, next_says, give_says, give_after, give_run_says, give_run_after, give_run_old_after, range_says, insert_after, remove_after, empty_says, test_says, check_says};

@@ -1,6 +1,8 @@
 // A bitmap allocator over a lent store of 16-bit words, after the Rust crate bitmap-allocator: the calls in the Rust's order.
 // Every call is total: specs/Calls.antt says what it answers and leaves in the store, for every store and every number. Each finds the
 // store's level by its word count, refuses the count or hands the map on.
+#![tactic(auto)]
+
 ghost use Rattle.std.specs.Prelude.{◌≡◌};
 ghost use Rattle.bitmap.specs.Answer.{number, taken, changed, told};
 ghost use Rattle.bitmap.specs.Calls.{answer, after, alloc_says, alloc_after, run_says, run_after, next_says, give_says, give_after, give_run_says, give_run_after, give_run_old_after, range_says, insert_after, remove_after, empty_says, test_says, check_says};

@@ -1,5 +1,7 @@
 // The stored image of a map, after document 01: written to lent bytes and read from them.
 // Both calls are total: specs/Calls.antt says what they answer and leave in the target, for every input.
+#![tactic(auto)]
+
 ghost use Rattle.std.specs.Prelude.{◌≡◌};
 ghost use Rattle.image.specs.Answer.{wrote, gotten};
 ghost use Rattle.image.specs.Calls.{write_says, write_after, read_says, read_after};

@@ -1,5 +1,7 @@
 // A tour of the stored image: its lengths, round trips, every refusal, an image with one byte changed at each place, and every
 // proper beginning of an image.
+#![tactic(auto)]
+
 ghost use Rattle.std.specs.Prelude.{◌≤◌, ◌<◌, length};
 
 use bitmap::{BitAlloc4K, BitAlloc16, BitAlloc64K, BitAlloc256, Refusal};

@@ -1,5 +1,7 @@
 // The line program, live: reads commands from standard input, one a line, and prints the answers to the lines that have come, at once.
 // All that is done to them is in the crate lines. What goes wrong is said on standard error, in one line, and ends the program.
+#![tactic(auto)]
+
 ghost use Rattle.std.specs.Prelude.{◌≤◌, length};
 
 use bitmap::BitAlloc64K;

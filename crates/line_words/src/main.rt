@@ -1,5 +1,7 @@
 // Plays a script as the line program does, and prints what that prints; behind it the words of the map as they are then, for ./draw.
 // All the work is in the crate lines. Where there is no map, no word is printed.
+#![tactic(auto)]
+
 ghost use Rattle.std.specs.Prelude.{◌≤◌, length};
 
 use bitmap::{BitAlloc4K, BitAlloc16, BitAlloc64K, BitAlloc256};

@@ -1,6 +1,8 @@
 // The line program from bytes to bytes: commands, one a line, are done on a map in lent words, and the answers are written to a lent
 // output. `lines` takes a whole input. `go_on` takes a part of one, so that a program can answer each line as it comes.
 // specs/Session.antt says what is printed for every input.
+#![tactic(auto)]
+
 ghost use Rattle.std.specs.Prelude.{◌≡◌, min};
 ghost use Rattle.lines.specs.Session.{says, lines_says, words_after, output_after, went_on, words_on, output_on};
 

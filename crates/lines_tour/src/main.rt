@@ -1,5 +1,7 @@
 // A tour of the library lines: small inputs, wrong first lines among them, stores and outputs that are too short by one, and parts.
 // Each is named, and what is printed for it follows.
+#![tactic(auto)]
+
 use bitmap::BitAlloc64K;
 use libc::STDOUT_FILENO;
 use lines::{Printed, Went};

@@ -1,5 +1,7 @@
 // Replays the list of operations that oracle/compare recorded beside the Rust crate, and says how many answers or words differ.
 // Each line of the input has eight numbers: levels, call, three arguments, refusal, value, and a checksum of the words afterwards.
+#![tactic(auto)]
+
 ghost use Rattle.std.specs.Prelude.{◌<◌, ◌≤◌, length};
 
 use asogeren::Answer;

@@ -1,6 +1,8 @@
 // A tour of the bitmap: its seven sizes, and then the calls of a script, its standard input: the two examples of the Rust's doc
 // comments, every public call on maps of one to four levels with each refusal, and maps that are not true. A line of the output is a
 // call with its answer and, after a change, the words that are not 0.
+#![tactic(auto)]
+
 use bitmap::{
     BitAlloc1M, BitAlloc4K, BitAlloc16, BitAlloc16M, BitAlloc64K, BitAlloc256, BitAlloc256M,
 };

@@ -1,6 +1,5 @@
 -- `words::word::next` meets its contract. What it keeps is the word without its bits below key, whose lowest is the first from key on.
 -- Assumes nothing.
-use borrow.Author.Rules.{rules}
 use mathlib.Core.Path.{◌≡◌, sym, ap, ◌∙◌}
 use mathlib.Core.Bool.{false, cond, ◌&&◌}
 use Prim.Native.Nat.{ℕ, ◌+◌, ◌-◌, ◌*◌, ◌%◌, ◌^◌, ◌<◌}
@@ -16,8 +15,7 @@ use Rattle.words.proofs.Search.{first-end}
 use Rattle.words.proofs.Bits.{is-pack, mask-bit, and-bit}
 use Rattle.words.proofs.Within.{within-yes, within-no}
 use Rattle.words.proofs.Words.{lowest-from}
-use Rattle.words.proofs.word.next.Statement.{statement}
-use Rattle.words.proofs.word.next.Tie as tie
+use Rattle.words.proofs.word.next.Goals as goal
 
 module _ (w key : ℕ) (l : key < 16) where
   -- the bits from key on stay
@@ -34,24 +32,10 @@ module _ (w key : ℕ) (l : key < 16) where
       mask : 65535 * 2 ^ key % 2 ^ 64 ≡ 2 ^ (16 + key) - 2 ^ key
       mask = omega (arith, pow-add 2 16 key, pow-lt l)
 
-returns : tie.Need-returns
-returns c = let a = c.before.args in sym (first-end (bit a.w) a.key 16 c.if1.true)
+pub returns-then-key-ge16 : goal.returns-then-key-ge16
+returns-then-key-ge16 c = let a = c.args in sym (first-end (bit a.w) a.key 16 c.if-key-ge16.true)
 
-shl-from-key : tie.Need-overflow-shl-from-key
-shl-from-key c = search rules
-
-cast-lowest : tie.Need-overflow-cast-lowest
-cast-lowest c = record { fits = lt_of_le_of_lt (and_le_l c.before.args.w _) c.before.ranges.w.fits }
-
-lowest-requires : tie.Need-lowest-requires
-lowest-requires c κs = search rules
-
-returns-2 : tie.Need-returns-2
-returns-2 c =
-    let start = c.before.before in
-    let a = start.args in
+pub returns : goal.returns
+returns c = let a = c.args in
     rw c.lowest.ensures
-    (ap lowest_bit (cleared a.w a.key (omega arith) start.ranges.w.fits) ∙ lowest-from a.w a.key (omega arith))
-
-pub next-spec : {M : Type 1} → statement M
-next-spec = tie.close (tie.spec returns shl-from-key cast-lowest lowest-requires returns-2)
+    (ap lowest_bit (cleared a.w a.key (omega arith) c.ranges.w.fits) ∙ lowest-from a.w a.key (omega arith))
