@@ -9,7 +9,7 @@ use image::{Got, Wrote};
 
 // What every exported call returns: refusal 0 and a value, or the number of the refusal and value 0.
 #[repr(C)]
-#[derive(Drop)]
+#[derive(Clone, Copy)]
 pub struct Answer {
     pub refusal: u64,
     pub value: u64,

@@ -1,7 +1,7 @@
 // Where a run has to start, as the Rust has an `Option`.
 
 // Anywhere, or at a base.
-#[derive(Drop)]
+#[derive(Clone, Copy)]
 pub enum Base {
     Any,
     At(usize),

@@ -1,7 +1,7 @@
 // How a run is given back.
 
 // Whole or not at all, or the crate's way.
-#[derive(Drop)]
+#[derive(Clone, Copy)]
 pub enum Way {
     Whole,
     Old,

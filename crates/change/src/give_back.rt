@@ -27,7 +27,7 @@ pub fn high_of(j: usize, b: usize, i: usize) -> usize
 }
 
 // The crate's run give-back of the positions from a up to b: whether none of them was free.
-#[cycle(dealloc_contiguous_old_dealloc_contiguous_old_below)]
+#[cycle(old_way)]
 pub fn dealloc_contiguous_old(k: usize, s: &mut [u16], a: usize, b: usize) -> bool
     requires { (k ≤ 6) × (length s.old ≡ words k) × (a < b) × (b ≤ cap k) }
     ensures value { result ≡ leb b (first_leaf k s.old a b) }
@@ -64,7 +64,7 @@ pub fn dealloc_contiguous_old(k: usize, s: &mut [u16], a: usize, b: usize) -> bo
 }
 
 // The same by a table of the levels, so that the compiled code has each level's numbers in it.
-#[cycle(dealloc_contiguous_old_dealloc_contiguous_old_below)]
+#[cycle(old_way)]
 pub fn dealloc_contiguous_old_below(k: usize, s: &mut [u16], a: usize, b: usize) -> bool
     requires { (k ≤ 5) × (length s.old ≡ words k) × (a < b) × (b ≤ cap k) }
     ensures value { result ≡ leb b (first_leaf k s.old a b) }

@@ -46,7 +46,7 @@ pub fn take(k: usize, s: &mut [u16], leaf: usize, p: usize)
 }
 
 // What a give-back finds in a map: the position was free already; or it is free now, and the own word stayed or became not empty.
-#[derive(Drop)]
+#[derive(Clone, Copy)]
 pub enum Given {
     AlreadyFree,
     Stayed,
@@ -66,7 +66,7 @@ pub fn give(k: usize, s: &mut [u16], p: usize) -> Given
 }
 
 // The same where the children have the level j: the child gives the position back, and its bit is set if its own word became not empty.
-#[cycle(give_below_give_node)]
+#[cycle(give_down)]
 fn give_node(j: usize, s: &mut [u16], p: usize) -> Given
     requires { (j ≤ 5) × (length s.old ≡ words (suc j)) × (p < cap (suc j)) }
     ensures value { result ≡ gives (suc j) s.old p }
@@ -84,7 +84,7 @@ fn give_node(j: usize, s: &mut [u16], p: usize) -> Given
 }
 
 // The child's, by a table of the levels, so that the compiled code has each level's numbers in it.
-#[cycle(give_below_give_node)]
+#[cycle(give_down)]
 fn give_below(k: usize, s: &mut [u16], p: usize) -> Given
     requires { (k ≤ 5) × (length s.old ≡ words k) × (p < cap k) }
     ensures value { result ≡ gives k s.old p }

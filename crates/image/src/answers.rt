@@ -2,14 +2,14 @@
 use bitmap::Refusal;
 
 // Writing: how many bytes were filled, or why none.
-#[derive(Drop)]
+#[derive(Clone, Copy)]
 pub enum Wrote {
     Bytes(usize),
     No(Refusal),
 }
 
 // Reading: how many levels the map has, or why there is none.
-#[derive(Drop)]
+#[derive(Clone, Copy)]
 pub enum Got {
     Levels(usize),
     No(Refusal),

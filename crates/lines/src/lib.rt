@@ -14,14 +14,14 @@ mod write;
 use bitmap::{BitAlloc64K, Refusal};
 
 // How many bytes were printed, or why nothing was read.
-#[derive(Drop)]
+#[derive(Clone, Copy)]
 pub enum Printed {
     Bytes(usize),
     No(Refusal),
 }
 
 // How many bytes were printed and how many words the map has then, or why nothing was read.
-#[derive(Drop)]
+#[derive(Clone, Copy)]
 pub enum Went {
     On(usize, usize),
     No(Refusal),

@@ -5,7 +5,7 @@ ghost use Rattle.lines.specs.Number.{number_of};
 ghost use Rattle.lines.specs.Line.{same, size_of, alone, with_one, with_two, with_three, command, line_of};
 
 // A line read. The code is 1 to 4 for `size 1` to `size 4`, 5 to 15 for the eleven commands, 0 for a line of another form.
-#[derive(Drop)]
+#[derive(Clone, Copy)]
 pub struct Line {
     pub code: usize,
     pub a: usize,

@@ -9,7 +9,7 @@ use crate::table::Reply;
 use crate::{read, table, write};
 
 // How many words the map has, 0 before it is opened, and how many bytes are printed.
-#[derive(Drop)]
+#[derive(Clone, Copy)]
 pub struct State {
     pub n: usize,
     pub at: usize,

@@ -6,7 +6,7 @@ ghost use Rattle.lines.specs.Reply.{place, done, yes, replies, afters, allowed};
 use bitmap::{Base, BitAlloc4K, BitAlloc16, BitAlloc64K, BitAlloc256, Changed, Taken, Told};
 
 // What a line is answered: a map of so many positions and words, a position, done, yes, not, or a refusal's number.
-#[derive(Drop)]
+#[derive(Clone, Copy)]
 pub enum Reply {
     Map(usize, usize),
     At(usize),

@@ -6,7 +6,7 @@ ghost use Rattle.look.specs.Leads.{leads};
 use words::{sizes, word};
 
 // A position and where its leaf word stands, or nowhere, where a word on the way is 0.
-#[derive(Drop)]
+#[derive(Clone, Copy)]
 pub enum Lead {
     To(usize, usize),
     Nowhere,

@@ -8,7 +8,7 @@ use words::kind::Change;
 use words::{sizes, word};
 
 // The lowest position from key on that is free and seen; past the map where there is none.
-#[cycle(next_below_next_children_next_node)]
+#[cycle(seek)]
 pub fn next_node(k: usize, s: &[u16], key: usize) -> usize
     requires { (k ≤ 6) × (length s.now ≡ words k) × (key < cap k) }
     ensures { result ≡ next_in (free? k s.now) (cap k) key }
@@ -32,7 +32,7 @@ pub fn next_node(k: usize, s: &[u16], key: usize) -> usize
 }
 
 // The same by a table of the levels, so that the compiled code has each level's numbers in it.
-#[cycle(next_below_next_children_next_node)]
+#[cycle(seek)]
 pub fn next_below(k: usize, s: &[u16], key: usize) -> usize
     requires { (k ≤ 5) × (length s.now ≡ words k) × (key < cap k) }
     ensures { result ≡ next_in (free? k s.now) (cap k) key }
@@ -48,7 +48,7 @@ pub fn next_below(k: usize, s: &[u16], key: usize) -> usize
 }
 
 // The lowest such position in the children from i on, each of level j. A child whose summary bit is 0 is not entered.
-#[cycle(next_below_next_children_next_node)]
+#[cycle(seek)]
 pub fn next_children(j: usize, s: &[u16], i: usize) -> usize
     requires { (j ≤ 5) × (length s.now ≡ words (suc j)) × (i ≤ 16) }
     ensures { result ≡ next_in (free? (suc j) s.now) (cap (suc j)) (i * cap j) }

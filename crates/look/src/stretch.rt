@@ -8,7 +8,7 @@ use words::kind::Change;
 use words::{sizes, word};
 
 // The first position from key on in key's own leaf word that is not free and seen; the word's end where there is none.
-#[cycle(end_in_below_end_in_word)]
+#[cycle(ends)]
 pub fn end_in_word(k: usize, s: &[u16], key: usize) -> usize
     requires { (k ≤ 6) × (length s.now ≡ words k) × (key < cap k) }
     ensures { result ≡ first_from (λ p. not (free? k s.now p)) key (16 - key % 16) }
@@ -29,7 +29,7 @@ pub fn end_in_word(k: usize, s: &[u16], key: usize) -> usize
 }
 
 // The same by a table of the levels, so that the compiled code has each level's numbers in it.
-#[cycle(end_in_below_end_in_word)]
+#[cycle(ends)]
 pub fn end_in_below(k: usize, s: &[u16], key: usize) -> usize
     requires { (k ≤ 5) × (length s.now ≡ words k) × (key < cap k) }
     ensures { result ≡ first_from (λ p. not (free? k s.now p)) key (16 - key % 16) }

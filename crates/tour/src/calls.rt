@@ -4,7 +4,7 @@ use crate::show;
 use bitmap::{Base, Changed, Taken, Told};
 
 // What a call answers: a take and another change leave words to show, a look-up and a test do not.
-#[derive(Drop)]
+#[derive(Clone, Copy)]
 enum Answer {
     Take(Taken),
     Look(Taken),

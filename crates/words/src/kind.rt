@@ -1,7 +1,7 @@
 // The two kinds of change that a range of positions can undergo. The Rust hands `for_range` a closure; here it is handed one of these.
 
 // Make free, or make taken.
-#[derive(Drop)]
+#[derive(Clone, Copy)]
 pub enum Change {
     Insert,
     Remove,

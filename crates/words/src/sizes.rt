@@ -3,7 +3,7 @@
 ghost use Rattle.std.specs.Prelude.{◌≡◌, ◌*◌, ◌/◌, ◌%◌, ◌≤◌};
 ghost use Rattle.words.specs.Sizes.{words, cap, level_of};
 
-#[derive(Drop)]
+#[derive(Clone, Copy)]
 pub struct BitAlloc16;
 
 impl BitAlloc16 {
@@ -12,7 +12,7 @@ impl BitAlloc16 {
     pub const WORDS: usize = 1;
 }
 
-#[derive(Drop)]
+#[derive(Clone, Copy)]
 pub struct BitAlloc256;
 
 impl BitAlloc256 {
@@ -21,7 +21,7 @@ impl BitAlloc256 {
     pub const WORDS: usize = 17;
 }
 
-#[derive(Drop)]
+#[derive(Clone, Copy)]
 pub struct BitAlloc4K;
 
 impl BitAlloc4K {
@@ -30,7 +30,7 @@ impl BitAlloc4K {
     pub const WORDS: usize = 273;
 }
 
-#[derive(Drop)]
+#[derive(Clone, Copy)]
 pub struct BitAlloc64K;
 
 impl BitAlloc64K {
@@ -39,7 +39,7 @@ impl BitAlloc64K {
     pub const WORDS: usize = 4369;
 }
 
-#[derive(Drop)]
+#[derive(Clone, Copy)]
 pub struct BitAlloc1M;
 
 impl BitAlloc1M {
@@ -48,7 +48,7 @@ impl BitAlloc1M {
     pub const WORDS: usize = 69905;
 }
 
-#[derive(Drop)]
+#[derive(Clone, Copy)]
 pub struct BitAlloc16M;
 
 impl BitAlloc16M {
@@ -57,7 +57,7 @@ impl BitAlloc16M {
     pub const WORDS: usize = 1118481;
 }
 
-#[derive(Drop)]
+#[derive(Clone, Copy)]
 pub struct BitAlloc256M;
 
 impl BitAlloc256M {

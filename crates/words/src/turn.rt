@@ -1,7 +1,7 @@
 // How a word goes in a single take or give-back, between empty, which is 0, and not empty.
 
 // It stayed empty or stayed not empty, it became empty, or it became not empty.
-#[derive(Drop)]
+#[derive(Clone, Copy)]
 pub enum Turn {
     Stayed,
     BecameEmpty,
@@ -9,7 +9,7 @@ pub enum Turn {
 }
 
 // The new word, and how the old one turned.
-#[derive(Drop)]
+#[derive(Clone, Copy)]
 pub struct Turned {
     pub word: u16,
     pub turn: Turn,
