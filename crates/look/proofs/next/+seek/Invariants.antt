@@ -1,0 +1,14 @@
+-- The cycle of calls {next_node, next_below, next_children}. A node at k asks its children at k - 1, by the key's own child first; the
+-- children at j and i ask one of them at j, through the table, and then those after it at the same j. The measure is 20 k for a node, one
+-- more for the table, and 20 j + (18 - i) for the children from i on. Assumes nothing.
+use Rattle.std.proofs.Common.{◌+◌, ◌-◌, ◌*◌}
+use Rattle.look.proofs.next.+seek.Given as goal
+
+abbrev pub decreases-next_node : goal.decreases-next_node
+decreases-next_node l = 20 * l.k
+
+abbrev pub decreases-next_below : goal.decreases-next_below
+decreases-next_below l = 20 * l.k + 1
+
+abbrev pub decreases-next_children : goal.decreases-next_children
+decreases-next_children l = 20 * l.j + (18 - l.i)
