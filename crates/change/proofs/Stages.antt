@@ -9,7 +9,7 @@ use native.Mathlib.Omega.{arith}
 use lib.ListN.{length, take, drop, set, get_or, length-drop, take-append-drop, drop_of_length-le}
 use lib.Seq.{length-take-le, set_at, get_or_at, take-take, take-add, drop-drop, drop-append-le}
 use lib.Dec.{eqb}
-use borrow.Rule.Slice.PartMut.{mid_of, put_mid, put_same, same-len-mid}
+use borrow.Rule.Slice.PartMut.{mid_of, put_mid, put_same, same_len_mid}
 use Rattle.words.specs.declared.kind.Change.{Change}
 use Rattle.words.specs.Bits.{bit, word_of, some, frees}
 use Rattle.words.specs.Sizes.{words, cap}
@@ -119,7 +119,7 @@ module _ (c : Change) (k : ℕ) (s : List ℕ) (p : ℕ) (len : length s ≡ wor
   pub length-stage : (j : ℕ) → j ≤ k → length (stage c j k s p) ≡ words k
   unfolding stage put below
   length-stage j h =
-      same-len-mid (on_way j k p) (words j) s (new_below c j k s p) (length-new_below j h ∙ sym (below-length k s p len l j h)) ∙ len
+      same_len_mid (on_way j k p) (words j) s (new_below c j k s p) (length-new_below j h ∙ sym (below-length k s p len l j h)) ∙ len
 
   -- the own word of the changed map
   pub stage-now : (j : ℕ) → j ≤ k → get_or (stage c j k s p) (on_way j k p) 0 ≡ own (new_below c j k s p)
