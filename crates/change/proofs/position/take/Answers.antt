@@ -18,11 +18,10 @@ use Rattle.words.specs.Turn.{turned}
 use Rattle.words.specs.Place.{leaf_place}
 use Rattle.words.specs.Sizes.{words, cap}
 use Rattle.words.specs.Take.{lowest}
-use Rattle.words.specs.Tree.{Fits}
 use Rattle.words.proofs.Turns.{word-told}
 use Rattle.words.proofs.Levels.{words-small}
 use Rattle.words.proofs.OnWay.{leaf-place-lt, leaf-word}
-use Rattle.change.proofs.Climb.{Climbed, Climbs, climb-leaf, climb-fits, climb-length, climb-end, Rising, rise-start, rise, rise-digit}
+use Rattle.change.proofs.Climb.{Climbed, climb-leaf, climb-fits, climb-end, Rising, rise-start, rise, rise-digit}
 use Rattle.change.proofs.TakenWay.{low-pos, low-leaf, left, left-told, take-end, take-low, take-turn}
 use Rattle.change.proofs.position.take.Goals as goal
 

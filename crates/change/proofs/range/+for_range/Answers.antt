@@ -1,4 +1,4 @@
--- The proof of the cycle of calls {cascade::for_range}. The measure is the level. A change is that of one child, or of the two border
+-- The proof of the cycle of calls {range::for_range}. The measure is the level. A change is that of one child, or of the two border
 -- children with a fill between them, by the laws of `Borders`. Assumes nothing.
 use mathlib.Core.Path.{◌≡◌, refl, sym, ap, ◌∙◌}
 use mathlib.Core.List.{List}
