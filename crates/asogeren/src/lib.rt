@@ -1,5 +1,5 @@
-// The C library: an exported function for each public call of the map and of the image, with the call's own definitions in its contract.
-// include/asogeren.h declares them for C. Every one is total: it takes any words, bytes and numbers.
+// What the C library does: a function for each public call of the map and of the image, with the call's own definitions in its contract.
+// crates/asogeren_c exports each to C under its name. Every one is total: it takes any words, bytes and numbers.
 #![tactic(auto)]
 
 ghost use Rattle.std.specs.Prelude.{◌≡◌};
@@ -14,8 +14,7 @@ use bitmap::{Base, Changed};
 pub use crossing::Answer;
 
 // Takes the lowest free position.
-#[unsafe(no_mangle)]
-pub extern "C" fn asogeren_alloc(store: &mut [u16]) -> Answer
+pub fn asogeren_alloc(store: &mut [u16]) -> Answer
     ensures value { result ≡ crossed (answer alloc_says store.old) }
     ensures store_after { store.new ≡ after alloc_after store.old }
 {
@@ -23,12 +22,7 @@ pub extern "C" fn asogeren_alloc(store: &mut [u16]) -> Answer
 }
 
 // Takes the lowest run of size positions that starts at a multiple of 2^align_log2.
-#[unsafe(no_mangle)]
-pub extern "C" fn asogeren_alloc_contiguous(
-    store: &mut [u16],
-    size: usize,
-    align_log2: usize,
-) -> Answer
+pub fn asogeren_alloc_contiguous(store: &mut [u16], size: usize, align_log2: usize) -> Answer
     ensures value { result ≡ crossed (answer (run_says Any size align_log2) store.old) }
     ensures store_after { store.new ≡ after (run_after Any size align_log2) store.old }
 {
@@ -36,8 +30,7 @@ pub extern "C" fn asogeren_alloc_contiguous(
 }
 
 // Takes the run of size positions at base, a multiple of 2^align_log2.
-#[unsafe(no_mangle)]
-pub extern "C" fn asogeren_alloc_contiguous_at(
+pub fn asogeren_alloc_contiguous_at(
     store: &mut [u16],
     base: usize,
     size: usize,
@@ -50,16 +43,14 @@ pub extern "C" fn asogeren_alloc_contiguous_at(
 }
 
 // The lowest free position that is key or more.
-#[unsafe(no_mangle)]
-pub extern "C" fn asogeren_next(store: &[u16], key: usize) -> Answer
+pub fn asogeren_next(store: &[u16], key: usize) -> Answer
     ensures { result ≡ crossed (answer (next_says key) store.now) }
 {
     crossing::from_taken(bitmap::next(store, key))
 }
 
 // Gives the position key back.
-#[unsafe(no_mangle)]
-pub extern "C" fn asogeren_dealloc(store: &mut [u16], key: usize) -> Answer
+pub fn asogeren_dealloc(store: &mut [u16], key: usize) -> Answer
     ensures value { result ≡ crossed (answer (give_says key) store.old) }
     ensures store_after { store.new ≡ after (give_after key) store.old }
 {
@@ -71,8 +62,7 @@ pub extern "C" fn asogeren_dealloc(store: &mut [u16], key: usize) -> Answer
 }
 
 // Gives size positions from base on back: all of them, or none where one was free already.
-#[unsafe(no_mangle)]
-pub extern "C" fn asogeren_dealloc_contiguous(store: &mut [u16], base: usize, size: usize) -> Answer
+pub fn asogeren_dealloc_contiguous(store: &mut [u16], base: usize, size: usize) -> Answer
     ensures value { result ≡ crossed (answer (give_run_says base size) store.old) }
     ensures store_after { store.new ≡ after (give_run_after base size) store.old }
 {
@@ -80,12 +70,7 @@ pub extern "C" fn asogeren_dealloc_contiguous(store: &mut [u16], base: usize, si
 }
 
 // The crate's way: where one was free already, the leaf words before its word are freed all the same.
-#[unsafe(no_mangle)]
-pub extern "C" fn asogeren_dealloc_contiguous_old(
-    store: &mut [u16],
-    base: usize,
-    size: usize,
-) -> Answer
+pub fn asogeren_dealloc_contiguous_old(store: &mut [u16], base: usize, size: usize) -> Answer
     ensures value { result ≡ crossed (answer (give_run_says base size) store.old) }
     ensures store_after { store.new ≡ after (give_run_old_after base size) store.old }
 {
@@ -93,8 +78,7 @@ pub extern "C" fn asogeren_dealloc_contiguous_old(
 }
 
 // Makes the positions from start up to end free.
-#[unsafe(no_mangle)]
-pub extern "C" fn asogeren_insert(store: &mut [u16], start: usize, end: usize) -> Answer
+pub fn asogeren_insert(store: &mut [u16], start: usize, end: usize) -> Answer
     ensures value { result ≡ crossed (answer (range_says start end) store.old) }
     ensures store_after { store.new ≡ after (insert_after start end) store.old }
 {
@@ -105,8 +89,7 @@ pub extern "C" fn asogeren_insert(store: &mut [u16], start: usize, end: usize) -
 }
 
 // Makes the positions from start up to end taken.
-#[unsafe(no_mangle)]
-pub extern "C" fn asogeren_remove(store: &mut [u16], start: usize, end: usize) -> Answer
+pub fn asogeren_remove(store: &mut [u16], start: usize, end: usize) -> Answer
     ensures value { result ≡ crossed (answer (range_says start end) store.old) }
     ensures store_after { store.new ≡ after (remove_after start end) store.old }
 {
@@ -117,32 +100,28 @@ pub extern "C" fn asogeren_remove(store: &mut [u16], start: usize, end: usize) -
 }
 
 // Whether no position is free: the first word is 0.
-#[unsafe(no_mangle)]
-pub extern "C" fn asogeren_is_empty(store: &[u16]) -> Answer
+pub fn asogeren_is_empty(store: &[u16]) -> Answer
     ensures { result ≡ crossed (answer empty_says store.now) }
 {
     crossing::from_told(bitmap::is_empty(store))
 }
 
 // Whether the leaf bit of the position key is set.
-#[unsafe(no_mangle)]
-pub extern "C" fn asogeren_test(store: &[u16], key: usize) -> Answer
+pub fn asogeren_test(store: &[u16], key: usize) -> Answer
     ensures { result ≡ crossed (answer (test_says key) store.now) }
 {
     crossing::from_told(bitmap::test(store, key))
 }
 
 // Whether the map is true.
-#[unsafe(no_mangle)]
-pub extern "C" fn asogeren_check(store: &[u16]) -> Answer
+pub fn asogeren_check(store: &[u16]) -> Answer
     ensures { result ≡ crossed (answer check_says store.now) }
 {
     crossing::from_told(bitmap::check(store))
 }
 
 // Writes the image of a true map to the first bytes of the target.
-#[unsafe(no_mangle)]
-pub extern "C" fn asogeren_image_write(store: &[u16], target: &mut [u8]) -> Answer
+pub fn asogeren_image_write(store: &[u16], target: &mut [u8]) -> Answer
     ensures value { result ≡ crossed (write_says store.now target.old) }
     ensures target_after { target.new ≡ write_after store.now target.old }
 {
@@ -150,8 +129,7 @@ pub extern "C" fn asogeren_image_write(store: &[u16], target: &mut [u8]) -> Answ
 }
 
 // Reads the image of a true map into the first words of the target.
-#[unsafe(no_mangle)]
-pub extern "C" fn asogeren_image_read(bytes: &[u8], target: &mut [u16]) -> Answer
+pub fn asogeren_image_read(bytes: &[u8], target: &mut [u16]) -> Answer
     ensures value { result ≡ crossed (read_says bytes.now target.old) }
     ensures target_after { target.new ≡ read_after bytes.now target.old }
 {
