@@ -16,9 +16,8 @@ fn main() {
     println!("cargo:rustc-link-lib=static=asogeren");
 }
 
-/// On x86-64 the archive is what `rt staticlib` writes, and elsewhere its module, compiled again.
+/// Each machine has an archive of its own there.
 fn made_here() -> PathBuf {
     let root = Path::new(&env::var_os("CARGO_MANIFEST_DIR").expect("cargo sets it")).join("../..");
-    let native = env::var("CARGO_CFG_TARGET_ARCH").is_ok_and(|arch| arch != "x86_64");
-    root.join(if native { "target/native" } else { "target/staticlib" })
+    root.join("target/staticlib").join(env::var("CARGO_CFG_TARGET_ARCH").expect("cargo sets it"))
 }
