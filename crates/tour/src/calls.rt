@@ -1,6 +1,7 @@
 // The call that a line of the script says, with its answer and, after a change, the words of the store.
 use crate::script::{begins, field};
 use crate::show;
+use crate::show::Out;
 use bitmap::{Base, Changed, Taken, Told};
 
 // What a call answers: a take and another change leave words to show, a look-up and a test do not.
@@ -13,7 +14,7 @@ enum Answer {
 }
 
 // Makes the call and writes what it answers.
-pub fn call(line: &[u8], s: &mut [u16]) {
+pub fn call(out: &mut Out, line: &[u8], s: &mut [u16]) {
     let answer = made(
         code(line),
         s,
@@ -24,20 +25,20 @@ pub fn call(line: &[u8], s: &mut [u16]) {
     );
     match answer {
         Answer::Take(t) => {
-            show::answer_of_take(t);
-            show::words(s);
+            show::answer_of_take(out, t);
+            show::words(out, s);
         }
         Answer::Look(t) => {
-            show::answer_of_take(t);
-            show::text(b"\n");
+            show::answer_of_take(out, t);
+            show::text(out, b"\n");
         }
         Answer::Change(c) => {
-            show::answer_of_change(c);
-            show::words(s);
+            show::answer_of_change(out, c);
+            show::words(out, s);
         }
         Answer::Test(t) => {
-            show::answer_of_test(t);
-            show::text(b"\n");
+            show::answer_of_test(out, t);
+            show::text(out, b"\n");
         }
     }
 }

@@ -3,53 +3,75 @@
 // call with its answer and, after a change, the words that are not 0.
 #![tactic(auto)]
 
+ghost use Rattle.std.specs.Prelude.{◌≤◌, length};
+
 use bitmap::{
     BitAlloc1M, BitAlloc4K, BitAlloc16, BitAlloc16M, BitAlloc64K, BitAlloc256, BitAlloc256M,
 };
-use libc::STDIN_FILENO;
+use show::Out;
+use std::io;
+use std::io::Read;
 
 mod calls;
 mod script;
 mod show;
 
-fn main() {
-    sizes();
-    let mut input = io::large_buffer();
-    let n = io::read_full(STDIN_FILENO, &mut input);
+// How many bytes of the script are read at most.
+const READ: u64 = 65536;
+
+fn main(rt: HostRuntime) -> io::Result<()> {
+    let mut out = show::begin(rt.stdout());
+    sizes(&mut out);
+    let mut input = Vec::new(rt.alloc());
+    rt.stdin().take(READ).read_to_end(&mut input)?;
     // one word more than a map of four levels has
     let mut room = [0u16; BitAlloc64K::WORDS + 1];
-    play(&input[..n], &mut room);
+    play(&mut out, &input, &mut room);
+    show::end(out)
 }
 
-fn size(name: &[u8], cap: usize, words: usize) {
-    show::text(name);
-    show::text(b" CAP");
-    show::number(cap);
-    show::text(b" WORDS");
-    show::number(words);
-    show::text(b"\n");
+fn size(out: &mut Out, name: &[u8], cap: usize, words: usize) {
+    show::text(out, name);
+    show::text(out, b" CAP");
+    show::number(out, cap);
+    show::text(out, b" WORDS");
+    show::number(out, words);
+    show::text(out, b"\n");
 }
 
-fn sizes() {
-    show::text(b"-- the sizes\n");
-    size(b"BitAlloc16", BitAlloc16::CAP, BitAlloc16::WORDS);
-    size(b"BitAlloc256", BitAlloc256::CAP, BitAlloc256::WORDS);
-    size(b"BitAlloc4K", BitAlloc4K::CAP, BitAlloc4K::WORDS);
-    size(b"BitAlloc64K", BitAlloc64K::CAP, BitAlloc64K::WORDS);
-    size(b"BitAlloc1M", BitAlloc1M::CAP, BitAlloc1M::WORDS);
-    size(b"BitAlloc16M", BitAlloc16M::CAP, BitAlloc16M::WORDS);
-    size(b"BitAlloc256M", BitAlloc256M::CAP, BitAlloc256M::WORDS);
+fn sizes(out: &mut Out) {
+    show::text(out, b"-- the sizes\n");
+    size(out, b"BitAlloc16", BitAlloc16::CAP, BitAlloc16::WORDS);
+    size(out, b"BitAlloc256", BitAlloc256::CAP, BitAlloc256::WORDS);
+    size(out, b"BitAlloc4K", BitAlloc4K::CAP, BitAlloc4K::WORDS);
+    size(out, b"BitAlloc64K", BitAlloc64K::CAP, BitAlloc64K::WORDS);
+    size(out, b"BitAlloc1M", BitAlloc1M::CAP, BitAlloc1M::WORDS);
+    size(out, b"BitAlloc16M", BitAlloc16M::CAP, BitAlloc16M::WORDS);
+    size(out, b"BitAlloc256M", BitAlloc256M::CAP, BitAlloc256M::WORDS);
 }
 
 // The lines of the script, one after the other.
-fn play(input: &[u8], room: &mut [u16]) {
+fn play(out: &mut Out, input: &[u8], room: &mut [u16]) {
     let mut n = 0;
     let mut at = 0;
     while at < input.len() {
-        let end = bytes::scan::find(input, at, input.len(), b'\n');
-        n = line(&input[at..end], room, n);
+        let end = line_end(input, at);
+        n = line(out, &input[at..end], room, n);
         at = end + 1;
     }
+}
+
+// Where the line ends that begins at `from`: at the next line end, or at the input's end.
+fn line_end(input: &[u8], from: usize) -> usize
+    requires { from ≤ length input.now }
+    ensures lower_bound { from ≤ result }
+    ensures upper_bound { result ≤ length input.now }
+{
+    let mut i = from;
+    while i < input.len() && input[i] != b'\n' {
+        i += 1;
+    }
+    i
 }
 
 // A line of the script, where the first n words of the room are lent; answers how many are lent from now on.
@@ -58,7 +80,7 @@ fn play(input: &[u8], room: &mut [u16]) {
 //   word I W     word I becomes W
 //   lent         prints the words that are lent
 //   anything else is a call, with its arguments
-fn line(l: &[u8], room: &mut [u16], n: usize) -> usize {
+fn line(out: &mut Out, l: &[u8], room: &mut [u16], n: usize) -> usize {
     if script::begins(l, b"store ") {
         clear(room);
         return script::field(l, 1) as usize;
@@ -71,22 +93,22 @@ fn line(l: &[u8], room: &mut [u16], n: usize) -> usize {
         );
         return n;
     }
-    show::text(l);
+    show::text(out, l);
     if n <= room.len() {
-        told(l, &mut room[0..n]);
+        told(out, l, &mut room[0..n]);
     }
     n
 }
 
 // What follows a line that is printed.
-fn told(l: &[u8], store: &mut [u16]) {
+fn told(out: &mut Out, l: &[u8], store: &mut [u16]) {
     if script::begins(l, b"-- ") {
-        show::text(b"\n");
+        show::text(out, b"\n");
     } else if script::begins(l, b"lent") {
-        show::number(store.len());
-        show::words(store);
+        show::number(out, store.len());
+        show::words(out, store);
     } else {
-        calls::call(l, store);
+        calls::call(out, l, store);
     }
 }
 

@@ -2,10 +2,7 @@
 
 // Whether the line begins with that text.
 pub fn begins(line: &[u8], text: &[u8]) -> bool {
-    if line.len() < text.len() {
-        return false;
-    }
-    check::same(&line[..text.len()], text)
+    line.starts_with(text)
 }
 
 // The number with one digit more.
@@ -13,8 +10,8 @@ fn longer(x: u64, digit: u8) -> u64 {
     if digit < b'0' {
         return x;
     }
-    let tenfold = std::num::wrapping_add_u64(x << 3, x << 1);
-    std::num::wrapping_add_u64(tenfold, (digit - b'0') as u64)
+    let tenfold = (x << 3).wrapping_add(x << 1);
+    tenfold.wrapping_add(u64::from(digit - b'0'))
 }
 
 // The number that stands after so many spaces.
@@ -24,7 +21,7 @@ pub fn field(line: &[u8], spaces: usize) -> u64 {
     let mut i = 0;
     while i < line.len() {
         if line[i] == b' ' {
-            seen = std::num::wrapping_add_usize(seen, 1);
+            seen = seen.wrapping_add(1);
         } else {
             if seen == spaces {
                 x = longer(x, line[i]);

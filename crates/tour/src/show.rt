@@ -2,63 +2,87 @@
 ghost use Rattle.std.specs.Prelude.{◌+◌, ◌<◌, ◌≤◌};
 
 use bitmap::{Changed, Refusal, Taken, Told};
+use std::io;
+use std::io::Stdout;
 
 // How many words that are not 0 a line shows at most.
 const SHOWN: usize = 8;
 
-pub fn text(t: &[u8]) {
-    io::write_all(1, t);
+// Standard output, and how the writes went. Behind one that failed nothing more is written, so that no part is missing in between.
+#[derive(Drop)]
+pub struct Out {
+    to: Stdout,
+    written: io::Result<()>,
+}
+
+pub fn begin(to: Stdout) -> Out {
+    Out {
+        to,
+        written: Ok(()),
+    }
+}
+
+// How the writes went, at the end of the program.
+pub fn end(out: Out) -> io::Result<()> {
+    out.written
+}
+
+pub fn text(out: &mut Out, t: &[u8]) {
+    if out.written.is_ok() {
+        out.written = out.to.write_all(t);
+    }
 }
 
 // A number, with a space before it.
-pub fn number(n: usize) {
-    text(b" ");
-    io::print_decimal(1, n as u64);
+pub fn number(out: &mut Out, n: usize) {
+    if out.written.is_ok() {
+        out.written = print!(out.to; " {n}");
+    }
 }
 
 // A refusal, by its number.
-fn refusal(r: Refusal) {
-    text(b": no");
-    number(bitmap::number(r));
+fn refusal(out: &mut Out, r: Refusal) {
+    text(out, b": no");
+    number(out, bitmap::number(r));
 }
 
 // The answer of a take or a look-up.
-pub fn answer_of_take(t: Taken) {
+pub fn answer_of_take(out: &mut Out, t: Taken) {
     match t {
         Taken::At(p) => {
-            text(b": at");
-            number(p);
+            text(out, b": at");
+            number(out, p);
         }
-        Taken::No(r) => refusal(r),
+        Taken::No(r) => refusal(out, r),
     }
 }
 
 // The answer of a change.
-pub fn answer_of_change(c: Changed) {
+pub fn answer_of_change(out: &mut Out, c: Changed) {
     match c {
-        Changed::Done => text(b": ok"),
-        Changed::No(r) => refusal(r),
+        Changed::Done => text(out, b": ok"),
+        Changed::No(r) => refusal(out, r),
     }
 }
 
 // The answer of a test.
-pub fn answer_of_test(t: Told) {
+pub fn answer_of_test(out: &mut Out, t: Told) {
     match t {
-        Told::Yes => text(b": yes"),
-        Told::Not => text(b": not"),
-        Told::No(r) => refusal(r),
+        Told::Yes => text(out, b": yes"),
+        Told::Not => text(out, b": not"),
+        Told::No(r) => refusal(out, r),
     }
 }
 
 // A word with its index, as 3:00ff.
-fn word(i: usize, w: u16) {
-    number(i);
-    text(b":");
-    io::print_hex(1, w as u64, 4);
+fn word(out: &mut Out, i: usize, w: u16) {
+    if out.written.is_ok() {
+        out.written = print!(out.to; " {i}:{w:04x}");
+    }
 }
 
 // Writes word i where it is not 0 and one of the first few, and answers how many were not 0 so far.
-fn one_more(i: usize, w: u16, some: usize) -> usize
+fn one_more(out: &mut Out, i: usize, w: u16, some: usize) -> usize
     requires { some < 18446744073709551615 }
     ensures { result ≤ some + 1 }
 {
@@ -66,30 +90,30 @@ fn one_more(i: usize, w: u16, some: usize) -> usize
         return some;
     }
     if some < SHOWN {
-        word(i, w);
+        word(out, i, w);
     }
     some + 1
 }
 
 // The same for every word.
-fn some_words(s: &[u16]) -> usize {
+fn some_words(out: &mut Out, s: &[u16]) -> usize {
     let mut some = 0;
     for i in 0..s.len() {
-        some = one_more(i, s[i], some);
+        some = one_more(out, i, s[i], some);
     }
     some
 }
 
 // The words of a store, up to the end of the line.
-pub fn words(s: &[u16]) {
-    text(b" |");
-    let some = some_words(s);
+pub fn words(out: &mut Out, s: &[u16]) {
+    text(out, b" |");
+    let some = some_words(out, s);
     if some == 0 {
-        text(b" all 0");
+        text(out, b" all 0");
     }
     if SHOWN < some {
-        text(b" .. in all");
-        number(some);
+        text(out, b" .. in all");
+        number(out, some);
     }
-    text(b"\n");
+    text(out, b"\n");
 }
