@@ -6,14 +6,18 @@ ghost use Rattle.std.specs.Prelude.{◌≤◌, ◌<◌, length};
 
 use bitmap::{BitAlloc4K, BitAlloc16, BitAlloc64K, BitAlloc256, Refusal};
 use image::Got;
+use show::Out;
+use std::io;
 
 mod show;
 
-fn main() {
-    round_trips();
-    refusals();
-    changed_bytes();
-    beginnings();
+fn main(rt: HostRuntime) -> io::Result<()> {
+    let mut out = show::begin(rt.stdout());
+    round_trips(&mut out);
+    refusals(&mut out);
+    changed_bytes(&mut out);
+    beginnings(&mut out);
+    show::end(out)
 }
 
 // Maps of 1 to 4 levels: the free positions are chosen so that each depth has words that are 0 and words that are not.
@@ -53,120 +57,112 @@ fn four_levels() -> [u16; BitAlloc64K::WORDS] {
 
 // Whether two stores hold the same.
 fn same_words(a: &[u16], b: &[u16]) -> bool {
-    if a.len() != b.len() {
-        return false;
-    }
-    for i in 0..a.len() {
-        if a[i] != b[i] {
-            return false;
-        }
-    }
-    true
+    a == b
 }
 
 // Writes the map, reads what was written, and writes what was read.
-fn trip(map: &[u16], image: &mut [u8], back: &mut [u16], again: &mut [u8]) {
-    show::text(b"write");
-    show::wrote(image::write(map, image));
-    show::text(b", read");
-    show::got(image::read(image, back));
-    show::sameness(same_words(map, back));
-    show::text(b", write");
-    show::wrote(image::write(back, again));
-    show::sameness(check::same(image, again));
-    show::text(b"\n");
+fn trip(out: &mut Out, map: &[u16], image: &mut [u8], back: &mut [u16], again: &mut [u8]) {
+    show::text(out, b"write");
+    show::wrote(out, image::write(map, image));
+    show::text(out, b", read");
+    show::got(out, image::read(image, back));
+    show::sameness(out, same_words(map, back));
+    show::text(out, b", write");
+    show::wrote(out, image::write(back, again));
+    show::sameness(out, &*image == &*again);
+    show::text(out, b"\n");
 }
 
-fn round_trips() {
-    show::title(b"there and back, 1 to 4 levels");
+fn round_trips(out: &mut Out) {
+    show::title(out, b"there and back, 1 to 4 levels");
     let map = one_level();
     let mut image = [0u8; 6];
     let mut back = [0u16; BitAlloc16::WORDS];
     let mut again = [0u8; 6];
-    trip(&map, &mut image, &mut back, &mut again);
-    two_there_and_back();
-    three_there_and_back();
-    four_there_and_back();
+    trip(out, &map, &mut image, &mut back, &mut again);
+    two_there_and_back(out);
+    three_there_and_back(out);
+    four_there_and_back(out);
 }
 
-fn two_there_and_back() {
+fn two_there_and_back(out: &mut Out) {
     let map = two_levels();
     let mut image = [0u8; 42];
     let mut back = [0u16; BitAlloc256::WORDS];
     let mut again = [0u8; 42];
-    trip(&map, &mut image, &mut back, &mut again);
+    trip(out, &map, &mut image, &mut back, &mut again);
 }
 
-fn three_there_and_back() {
+fn three_there_and_back(out: &mut Out) {
     let map = three_levels();
     let mut image = [0u8; 558];
     let mut back = [0u16; BitAlloc4K::WORDS];
     let mut again = [0u8; 558];
-    trip(&map, &mut image, &mut back, &mut again);
+    trip(out, &map, &mut image, &mut back, &mut again);
 }
 
-fn four_there_and_back() {
+fn four_there_and_back(out: &mut Out) {
     let map = four_levels();
     let mut image = [0u8; 8754];
     let mut back = [0u16; BitAlloc64K::WORDS];
     let mut again = [0u8; 8754];
-    trip(&map, &mut image, &mut back, &mut again);
+    trip(out, &map, &mut image, &mut back, &mut again);
 }
 
 // A line for a write.
-fn write_line(map: &[u16], target: &mut [u8]) {
-    show::text(b"write");
-    show::number(map.len());
-    show::text(b" words to");
-    show::number(target.len());
-    show::text(b" bytes:");
-    show::wrote(image::write(map, target));
-    show::text(b"\n");
+fn write_line(out: &mut Out, map: &[u16], target: &mut [u8]) {
+    show::text(out, b"write");
+    show::number(out, map.len());
+    show::text(out, b" words to");
+    show::number(out, target.len());
+    show::text(out, b" bytes:");
+    show::wrote(out, image::write(map, target));
+    show::text(out, b"\n");
 }
 
 // A line for a read.
-fn read_line(bytes: &[u8], target: &mut [u16]) {
-    show::text(b"read");
-    show::number(bytes.len());
-    show::text(b" bytes to");
-    show::number(target.len());
-    show::text(b" words:");
-    show::got(image::read(bytes, target));
-    show::text(b"\n");
+fn read_line(out: &mut Out, bytes: &[u8], target: &mut [u16]) {
+    show::text(out, b"read");
+    show::number(out, bytes.len());
+    show::text(out, b" bytes to");
+    show::number(out, target.len());
+    show::text(out, b" words:");
+    show::got(out, image::read(bytes, target));
+    show::text(out, b"\n");
 }
 
-fn refusals() {
-    show::title(b"refusals");
+fn refusals(out: &mut Out) {
+    show::title(out, b"refusals");
     let mut bytes = [0u8; 64];
     let none = [0u16; 0];
-    write_line(&none, &mut bytes);
+    write_line(out, &none, &mut bytes);
     let sixteen = [0u16; 16];
-    write_line(&sixteen, &mut bytes);
+    write_line(out, &sixteen, &mut bytes);
     let mut untrue = two_levels();
     untrue[2] = 1;
     let mut short = [0u8; 41];
-    write_line(&untrue, &mut short);
+    write_line(out, &untrue, &mut short);
     let map = two_levels();
-    write_line(&map, &mut short);
-    write_line(&map, &mut bytes);
-    more_refusals();
+    write_line(out, &map, &mut short);
+    write_line(out, &map, &mut bytes);
+    more_refusals(out);
 }
 
-fn more_refusals() {
+fn more_refusals(out: &mut Out) {
     let map = two_levels();
     let mut image = [0u8; 42];
     image::write(&map, &mut image);
     let mut short = [0u16; 16];
-    read_line(&image, &mut short);
+    read_line(out, &image, &mut short);
     let mut long = [0u16; 20];
-    read_line(&image, &mut long);
+    read_line(out, &image, &mut long);
     let beyond = [0u8; 43];
-    read_line(&beyond, &mut long);
+    read_line(out, &beyond, &mut long);
     image[12] = 1;
-    read_line(&image, &mut short);
-    read_line(&image, &mut long);
+    read_line(out, &image, &mut short);
+    read_line(out, &image, &mut long);
     image[0] = 2;
-    read_line(&image, &mut short);
+    read_line(out, &image, &mut short);
 }
 
 // Another byte.
@@ -175,31 +171,31 @@ fn flip(b: u8) -> u8 {
 }
 
 // The image with the byte at p changed.
-fn changed_at(image: &mut [u8], p: usize)
+fn changed_at(out: &mut Out, image: &mut [u8], p: usize)
     requires { p < length image.old }
 {
     image[p] = flip(image[p]);
     let mut back = [0u16; BitAlloc256::WORDS];
-    show::text(b"byte");
-    show::number(p);
-    show::text(b":");
-    show::got(image::read(image, &mut back));
-    show::text(b"\n");
+    show::text(out, b"byte");
+    show::number(out, p);
+    show::text(out, b":");
+    show::got(out, image::read(image, &mut back));
+    show::text(out, b"\n");
     image[p] = flip(image[p]);
 }
 
-fn each_changed(image: &mut [u8]) {
+fn each_changed(out: &mut Out, image: &mut [u8]) {
     for p in 0..image.len() {
-        changed_at(image, p);
+        changed_at(out, image, p);
     }
 }
 
-fn changed_bytes() {
-    show::title(b"an image of 2 levels with one byte changed");
+fn changed_bytes(out: &mut Out) {
+    show::title(out, b"an image of 2 levels with one byte changed");
     let map = two_levels();
     let mut image = [0u8; 42];
     image::write(&map, &mut image);
-    each_changed(&mut image);
+    each_changed(out, &mut image);
 }
 
 // Whether an answer is refusal 8.
@@ -214,7 +210,7 @@ fn bad(g: Got) -> bool {
 }
 
 // Reads the first n bytes: 1 where they are refused with 8, and otherwise 0 and a line.
-fn beginning(image: &[u8], n: usize) -> usize
+fn beginning(out: &mut Out, image: &[u8], n: usize) -> usize
     requires { n ≤ length image.now }
     ensures { result ≤ 1 }
 {
@@ -223,39 +219,39 @@ fn beginning(image: &[u8], n: usize) -> usize
     if bad(g) {
         return 1;
     }
-    show::text(b"first");
-    show::number(n);
-    show::text(b":");
-    show::got(g);
-    show::text(b"\n");
+    show::text(out, b"first");
+    show::number(out, n);
+    show::text(out, b":");
+    show::got(out, g);
+    show::text(out, b"\n");
     0
 }
 
 // How many proper beginnings are refused with 8.
-fn each_beginning(image: &[u8]) -> usize {
+fn each_beginning(out: &mut Out, image: &[u8]) -> usize {
     let mut refused = 0;
     for n in 0..image.len() {
-        refused += beginning(image, n);
+        refused += beginning(out, image, n);
     }
     refused
 }
 
-fn beginnings_of(image: &[u8]) {
-    let refused = each_beginning(image);
-    show::text(b"the others: no 8,");
-    show::number(refused);
-    show::text(b"\n");
+fn beginnings_of(out: &mut Out, image: &[u8]) {
+    let refused = each_beginning(out, image);
+    show::text(out, b"the others: no 8,");
+    show::number(out, refused);
+    show::text(out, b"\n");
 }
 
-fn beginnings() {
-    show::title(b"every proper beginning of an image of 2 levels");
+fn beginnings(out: &mut Out) {
+    show::title(out, b"every proper beginning of an image of 2 levels");
     let two = two_levels();
     let mut small = [0u8; 42];
     image::write(&two, &mut small);
-    beginnings_of(&small);
-    show::title(b"every proper beginning of an image of 3 levels");
+    beginnings_of(out, &small);
+    show::title(out, b"every proper beginning of an image of 3 levels");
     let three = three_levels();
     let mut large = [0u8; 558];
     image::write(&three, &mut large);
-    beginnings_of(&large);
+    beginnings_of(out, &large);
 }

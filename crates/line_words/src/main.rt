@@ -5,31 +5,36 @@
 ghost use Rattle.std.specs.Prelude.{◌≤◌, length};
 
 use bitmap::{BitAlloc4K, BitAlloc16, BitAlloc64K, BitAlloc256};
-use libc::{STDIN_FILENO, STDOUT_FILENO};
 use lines::Printed;
+use std::io;
+use std::io::Read;
+
+// How many bytes are read at most.
+const READ: u64 = 65536;
 
 // 6 bytes for each byte read.
 const PRINTED: usize = 393216;
 
-fn main() {
-    let mut input = io::large_buffer();
-    let n = io::read_full(STDIN_FILENO, &mut input);
+fn main(rt: HostRuntime) -> io::Result<()> {
+    let mut input = Vec::new(rt.alloc());
+    rt.stdin().take(READ).read_to_end(&mut input)?;
     let mut words = [0u16; BitAlloc64K::WORDS];
-    let mut output = [0u8; PRINTED];
-    match lines::lines(&input[..n], &mut words, &mut output) {
+    let mut output = vec![in rt.alloc(); 0u8; PRINTED]?;
+    match lines::lines(&input, &mut words, &mut output) {
         Printed::Bytes(count) => {
-            print(&output, count);
-            show(&words, words_of(output[4]));
+            print(&rt, &output, count)?;
+            show(&rt, &words, words_of(output[4]))
         }
-        Printed::No(_) => {}
+        Printed::No(_) => Ok(()),
     }
 }
 
 // The first n bytes.
-fn print(bytes: &[u8], n: usize) {
-    if n <= bytes.len() {
-        io::write_all(STDOUT_FILENO, &bytes[..n]);
+fn print(rt: &impl Print, bytes: &[u8], n: usize) -> io::Result<()> {
+    if bytes.len() < n {
+        return Ok(());
     }
+    rt.write_all(&bytes[..n])
 }
 
 // How many words the map has, by the fifth byte printed: `map 16`, `map 256`, `map 4096`, `map 65536`, or else `no 10` and nothing.
@@ -44,29 +49,26 @@ fn words_of(digit: u8) -> usize {
 }
 
 // How many words the map has, and each of them on a line of its own.
-fn show(words: &[u16], n: usize) {
+fn show(rt: &impl Print, words: &[u16], n: usize) -> io::Result<()> {
     if n == 0 {
-        return;
+        return Ok(());
     }
     if words.len() < n {
-        return;
+        return Ok(());
     }
-    io::write_all(STDOUT_FILENO, b"words ");
-    io::print_decimal(STDOUT_FILENO, n as u64);
-    io::write_all(STDOUT_FILENO, b"\n");
-    each(words, n);
+    println!(rt; "words {n}")?;
+    each(rt, words, n)
 }
 
-fn each(words: &[u16], n: usize)
+fn each(rt: &impl Print, words: &[u16], n: usize) -> io::Result<()>
     requires { n ≤ length words.now }
 {
     for i in 0..n {
-        word(words[i]);
+        word(rt, words[i])?;
     }
+    Ok(())
 }
 
-fn word(w: u16) {
-    io::write_all(STDOUT_FILENO, b"0x");
-    io::print_hex(STDOUT_FILENO, w as u64, 4);
-    io::write_all(STDOUT_FILENO, b"\n");
+fn word(rt: &impl Print, w: u16) -> io::Result<()> {
+    println!(rt; "0x{w:04x}")
 }

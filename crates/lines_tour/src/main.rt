@@ -3,122 +3,127 @@
 #![tactic(auto)]
 
 use bitmap::BitAlloc64K;
-use libc::STDOUT_FILENO;
 use lines::{Printed, Went};
+use std::io;
 
-fn main() {
-    no_lines();
-    wrong_first_lines();
-    last_lines();
-    targets();
-    parts();
+fn main(rt: HostRuntime) -> io::Result<()> {
+    no_lines(&rt)?;
+    wrong_first_lines(&rt)?;
+    last_lines(&rt)?;
+    targets(&rt)?;
+    parts(&rt)
 }
 
 // No input, and no line.
-fn no_lines() {
-    show(b"no input", b"");
-    show(b"one line end", b"\n");
-    show(b"two line ends", b"\n\n");
+fn no_lines(rt: &impl Print) -> io::Result<()> {
+    show(rt, b"no input", b"")?;
+    show(rt, b"one line end", b"\n")?;
+    show(rt, b"two line ends", b"\n\n")
 }
 
 // Each is answered `no 10`, and nothing after it is read.
-fn wrong_first_lines() {
-    show(b"size 0", b"size 0\ntake\n");
-    show(b"size 5", b"size 5\ntake\n");
-    show(b"size 02", b"size 02\ntake\n");
-    show(b"size 12", b"size 12\ntake\n");
-    show(b"no size", b"size\ntake\n");
-    show(b"an empty size", b"size \ntake\n");
-    show(b"two spaces", b"size  2\ntake\n");
-    show(b"a leading space", b" size 2\ntake\n");
-    show(b"a trailing space", b"size 2 \ntake\n");
-    show(b"a carriage return", b"size 2\r\ntake\r\n");
-    show(b"a capital letter", b"Size 2\ntake\n");
-    show(b"two sizes", b"size 2 2\ntake\n");
-    show(b"a command", b"take\nsize 2\n");
-    show(b"another word", b"sizes 2\ntake\n");
+fn wrong_first_lines(rt: &impl Print) -> io::Result<()> {
+    show(rt, b"size 0", b"size 0\ntake\n")?;
+    show(rt, b"size 5", b"size 5\ntake\n")?;
+    show(rt, b"size 02", b"size 02\ntake\n")?;
+    show(rt, b"size 12", b"size 12\ntake\n")?;
+    show(rt, b"no size", b"size\ntake\n")?;
+    show(rt, b"an empty size", b"size \ntake\n")?;
+    show(rt, b"two spaces", b"size  2\ntake\n")?;
+    show(rt, b"a leading space", b" size 2\ntake\n")?;
+    show(rt, b"a trailing space", b"size 2 \ntake\n")?;
+    show(rt, b"a carriage return", b"size 2\r\ntake\r\n")?;
+    show(rt, b"a capital letter", b"Size 2\ntake\n")?;
+    show(rt, b"two sizes", b"size 2 2\ntake\n")?;
+    show(rt, b"a command", b"take\nsize 2\n")?;
+    show(rt, b"another word", b"sizes 2\ntake\n")
 }
 
 // A last line needs no line end, and a line end at the end adds no line.
-fn last_lines() {
-    show(b"a size with no line end", b"size 1");
-    show(b"a size with a line end", b"size 2\n");
-    show(b"a size and an empty line", b"size 3\n\n");
-    show(b"a size and a last line", b"size 4\ntake");
-    show(b"a second size", b"size 1\nsize 1\nempty\n");
+fn last_lines(rt: &impl Print) -> io::Result<()> {
+    show(rt, b"a size with no line end", b"size 1")?;
+    show(rt, b"a size with a line end", b"size 2\n")?;
+    show(rt, b"a size and an empty line", b"size 3\n\n")?;
+    show(rt, b"a size and a last line", b"size 4\ntake")?;
+    show(rt, b"a second size", b"size 1\nsize 1\nempty\n")
 }
 
 // The eight bytes of `size 1`, a line end and an empty line take at most 48 bytes, and the words are those of the largest size.
-fn targets() {
+fn targets(rt: &impl Print) -> io::Result<()> {
     let mut enough_words = [1u16; BitAlloc64K::WORDS];
     let mut enough_bytes = [b'.'; 48];
-    sized(b"just enough", &mut enough_words, &mut enough_bytes);
+    sized(rt, b"just enough", &mut enough_words, &mut enough_bytes)?;
     let mut few_words = [1u16; 4368];
     let mut its_bytes = [b'.'; 48];
-    sized(b"a word too few", &mut few_words, &mut its_bytes);
+    sized(rt, b"a word too few", &mut few_words, &mut its_bytes)?;
     let mut its_words = [1u16; BitAlloc64K::WORDS];
     let mut few_bytes = [b'.'; 47];
-    sized(b"a byte too few", &mut its_words, &mut few_bytes);
+    sized(rt, b"a byte too few", &mut its_words, &mut few_bytes)
 }
 
 // Parts of an input, each on the map that the one before it left; a map with more words than there are; and a wrong first line.
-fn parts() {
+fn parts(rt: &impl Print) -> io::Result<()> {
     let mut words = [0u16; BitAlloc64K::WORDS];
-    let first = part(b"a first part", b"size 1\ninsert 0 4\n", &mut words, 0);
-    let second = part(b"a second", b"take\ntake\n", &mut words, first);
-    part(b"a last, with no line end", b"take", &mut words, second);
-    part(b"no byte", b"", &mut words, second);
-    part(b"a map with a word too many", b"take\n", &mut words, 4370);
-    part(b"a wrong first line", b"take\nsize 1\n", &mut words, 0);
+    let first = part(rt, b"a first part", b"size 1\ninsert 0 4\n", &mut words, 0)?;
+    let second = part(rt, b"a second", b"take\ntake\n", &mut words, first)?;
+    part(rt, b"a last, with no line end", b"take", &mut words, second)?;
+    part(rt, b"no byte", b"", &mut words, second)?;
+    part(
+        rt,
+        b"a map with a word too many",
+        b"take\n",
+        &mut words,
+        4370,
+    )?;
+    part(rt, b"a wrong first line", b"take\nsize 1\n", &mut words, 0)?;
+    Ok(())
 }
 
 // Prints the answers to a part, and answers how many words the map has then.
-fn part(name: &[u8], input: &[u8], words: &mut [u16], map: usize) -> usize {
-    title(name);
+fn part(
+    rt: &impl Print,
+    name: &[u8],
+    input: &[u8],
+    words: &mut [u16],
+    map: usize,
+) -> io::Result<usize> {
+    title(rt, name)?;
     let mut output = [0u8; 128];
     match lines::go_on(input, words, map, &mut output) {
         Went::On(count, now) => {
-            io::write_all(STDOUT_FILENO, &output[..count]);
-            now
+            rt.write_all(&output[..count])?;
+            Ok(now)
         }
         Went::No(_) => {
-            io::write_all(STDOUT_FILENO, b"refused\n");
-            0
+            rt.write_all(b"refused\n")?;
+            Ok(0)
         }
     }
 }
 
-fn title(name: &[u8]) {
-    io::write_all(STDOUT_FILENO, b"-- ");
-    io::write_all(STDOUT_FILENO, name);
-    io::write_all(STDOUT_FILENO, b"\n");
+fn title(rt: &impl Print, name: &[u8]) -> io::Result<()> {
+    rt.write_all(b"-- ")?;
+    rt.write_all(name)?;
+    rt.write_all(b"\n")
 }
 
-fn show(name: &[u8], input: &[u8]) {
-    title(name);
+fn show(rt: &impl Print, name: &[u8], input: &[u8]) -> io::Result<()> {
+    title(rt, name)?;
     let mut words = [0u16; BitAlloc64K::WORDS];
     let mut output = [0u8; 4096];
     match lines::lines(input, &mut words, &mut output) {
-        Printed::Bytes(n) => {
-            io::write_all(STDOUT_FILENO, &output[..n]);
-        }
-        Printed::No(_) => {
-            io::write_all(STDOUT_FILENO, b"refused\n");
-        }
+        Printed::Bytes(n) => rt.write_all(&output[..n]),
+        Printed::No(_) => rt.write_all(b"refused\n"),
     }
 }
 
 // The whole output is shown, in which a dot is a byte that was not written.
-fn sized(name: &[u8], words: &mut [u16], output: &mut [u8]) {
-    title(name);
+fn sized(rt: &impl Print, name: &[u8], words: &mut [u16], output: &mut [u8]) -> io::Result<()> {
+    title(rt, name)?;
     match lines::lines(b"size 1\n\n", words, output) {
-        Printed::Bytes(_) => {
-            io::write_all(STDOUT_FILENO, b"printed\n");
-        }
-        Printed::No(_) => {
-            io::write_all(STDOUT_FILENO, b"refused\n");
-        }
+        Printed::Bytes(_) => rt.write_all(b"printed\n")?,
+        Printed::No(_) => rt.write_all(b"refused\n")?,
     }
-    io::write_all(STDOUT_FILENO, output);
-    io::write_all(STDOUT_FILENO, b"\n");
+    rt.write_all(output)?;
+    rt.write_all(b"\n")
 }

@@ -6,7 +6,8 @@ ghost use Rattle.std.specs.Prelude.{◌<◌, ◌≤◌, length};
 
 use asogeren::Answer;
 use bitmap::{BitAlloc1M, BitAlloc4K, BitAlloc16, BitAlloc64K, BitAlloc256};
-use libc::{STDIN_FILENO, STDOUT_FILENO};
+use std::io;
+use std::io::Read;
 
 // The words of a map of so many levels; 0 where the list has no such maps.
 fn words_of(levels: u64) -> usize {
@@ -41,7 +42,7 @@ fn called(map: &mut [u16], code: u64, a: usize, b: usize, c: usize) -> Answer {
 }
 
 fn wide(x: u16) -> u64 {
-    x as u64
+    u64::from(x)
 }
 
 // 33 times what stood before, plus the word, for each word.
@@ -49,7 +50,7 @@ fn checksum(map: &[u16]) -> u64 {
     let mut sum: u64 = 0;
     let mut i = 0;
     while i < map.len() {
-        sum = std::num::wrapping_add_u64(std::num::wrapping_add_u64(sum << 5, sum), wide(map[i]));
+        sum = (sum << 5).wrapping_add(sum).wrapping_add(wide(map[i]));
         i += 1;
     }
     sum
@@ -60,8 +61,8 @@ fn longer(x: u64, digit: u8) -> u64 {
     if digit < b'0' {
         return x;
     }
-    let tenfold = std::num::wrapping_add_u64(x << 3, x << 1);
-    std::num::wrapping_add_u64(tenfold, (digit - b'0') as u64)
+    let tenfold = (x << 3).wrapping_add(x << 1);
+    tenfold.wrapping_add(u64::from(digit - b'0'))
 }
 
 // The number that stands after so many spaces.
@@ -71,7 +72,7 @@ fn field(line: &[u8], spaces: usize) -> u64 {
     let mut i = 0;
     while i < line.len() {
         if line[i] == b' ' {
-            seen = std::num::wrapping_add_usize(seen, 1);
+            seen = seen.wrapping_add(1);
         } else {
             if seen == spaces {
                 x = longer(x, line[i]);
@@ -126,45 +127,43 @@ fn next_line(input: &[u8], from: usize) -> usize
     i
 }
 
-fn say(operations: u64, differences: u64) {
-    io::print_decimal(STDOUT_FILENO, operations);
-    io::write_all(STDOUT_FILENO, b" operations, ");
-    io::print_decimal(STDOUT_FILENO, differences);
-    io::write_all(STDOUT_FILENO, b" differences\n");
+fn say(rt: &impl Print, operations: u64, differences: u64) -> io::Result<()> {
+    println!(rt; "{operations} operations, {differences} differences")
 }
 
-fn say_line(line: u64) {
-    io::write_all(STDOUT_FILENO, b"line ");
-    io::print_decimal(STDOUT_FILENO, line);
-    io::write_all(STDOUT_FILENO, b" differs\n");
+fn say_line(rt: &impl Print, line: u64) -> io::Result<()> {
+    println!(rt; "line {line} differs")
 }
 
 // How many differences the line with that number has: 0 or 1, which is then said.
-fn judged(number: u64, line: &[u8], room: &mut [u16]) -> u64 {
+fn judged(rt: &impl Print, number: u64, line: &[u8], room: &mut [u16]) -> io::Result<u64> {
     if holds_in(line, room) {
-        return 0;
+        return Ok(0);
     }
-    say_line(number);
-    1
+    say_line(rt, number)?;
+    Ok(1)
 }
 
-fn replay(input: &[u8], room: &mut [u16]) {
+fn replay(rt: &impl Print, input: &[u8], room: &mut [u16]) -> io::Result<()> {
     let mut operations: u64 = 0;
     let mut differences: u64 = 0;
     let mut at = 0;
     while at < input.len() {
         let end = next_line(input, at);
-        operations = std::num::wrapping_add_u64(operations, 1);
-        let more = judged(operations, &input[at..end], room);
-        differences = std::num::wrapping_add_u64(differences, more);
+        operations = operations.wrapping_add(1);
+        let more = judged(rt, operations, &input[at..end], room)?;
+        differences = differences.wrapping_add(more);
         at = end;
     }
-    say(operations, differences);
+    say(rt, operations, differences)
 }
 
-fn main() {
-    let mut input = [0u8; 262144];
-    let n = io::read_full(STDIN_FILENO, &mut input);
-    let mut room = [0u16; BitAlloc1M::WORDS];
-    replay(&input[..n], &mut room);
+// How many bytes of the list are read at most.
+const READ: u64 = 262144;
+
+fn main(rt: HostRuntime) -> io::Result<()> {
+    let mut input = Vec::new(rt.alloc());
+    rt.stdin().take(READ).read_to_end(&mut input)?;
+    let mut room = vec![in rt.alloc(); 0u16; BitAlloc1M::WORDS]?;
+    replay(&rt, &input, &mut room)
 }
