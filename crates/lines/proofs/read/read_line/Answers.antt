@@ -59,7 +59,7 @@ module _ (s : List ℕ) {e : ℕ} (h : Ends s 0 e) (n : e ≡ length s → ⊥) 
                 (field-more 32 s (e3 + 1) e4 h4.0 (omega arith) (strict h4.2 n4))
 
 pub returns-then-size-ne0 : goal.returns-then-size-ne0
-returns-then-size-ne0 c = c.command.ensures ∙ line-size _ _ c.type_size.ensures c.if-size-ne0.true
+returns-then-size-ne0 c = c.command.ensures ∙ line-size _ _ c.size_of-size.ensures c.if-size-ne0.true
 
 pub returns-then-end-n : goal.returns-then-end-n
 unfolding command_of
@@ -68,7 +68,7 @@ returns-then-end-n c =
     c.command-then-end-n.ensures
     ∙ command-is c.alone.ensures refl refl refl
     ∙ sym (ap command_of (name-last s _ c.find-end.ensures.0 c.if-end-n.true))
-    ∙ line-fields s _ c.type_size.ensures c.if-size-ne0.false
+    ∙ line-fields s _ c.size_of-size.ensures c.if-size-ne0.false
 
 pub returns-then-end1-n : goal.returns-then-end1-n
 unfolding command_of
@@ -77,7 +77,7 @@ returns-then-end1-n c =
     c.command-then-end1-n.ensures
     ∙ command-is c.with_one.ensures c.number-a.ensures refl refl
     ∙ sym (ap command_of (last2 s c.find-end.ensures c.if-end-n.false c.find-end1.ensures c.if-end1-n.true))
-    ∙ line-fields s _ c.type_size.ensures c.if-size-ne0.false
+    ∙ line-fields s _ c.size_of-size.ensures c.if-size-ne0.false
 
 pub returns-then-end2-n : goal.returns-then-end2-n
 unfolding command_of
@@ -86,7 +86,7 @@ returns-then-end2-n c =
     c.command-then-end2-n.ensures
     ∙ command-is c.with_two.ensures c.number-a.ensures c.number-b.ensures refl
     ∙ sym (ap command_of (last3 s c.find-end.ensures c.if-end-n.false c.find-end1.ensures c.if-end1-n.false c.find-end2.ensures c.if-end2-n.true))
-    ∙ line-fields s _ c.type_size.ensures c.if-size-ne0.false
+    ∙ line-fields s _ c.size_of-size.ensures c.if-size-ne0.false
 
 pub returns-then-end3-n : goal.returns-then-end3-n
 unfolding command_of
@@ -96,7 +96,7 @@ returns-then-end3-n c =
     ∙ command-is c.with_three.ensures c.number-a.ensures c.number-b.ensures c.number-c.ensures
     ∙ sym (ap command_of
     (last4 s c.find-end.ensures c.if-end-n.false c.find-end1.ensures c.if-end1-n.false c.find-end2.ensures c.if-end2-n.false c.find-end3.ensures c.if-end3-n.true))
-    ∙ line-fields s _ c.type_size.ensures c.if-size-ne0.false
+    ∙ line-fields s _ c.size_of-size.ensures c.if-size-ne0.false
 
 pub returns : goal.returns
 returns c =
@@ -105,4 +105,4 @@ returns c =
     too-many _ _ _ _ rest (pieces-some 32 (drop (c.find-end3.result + 1) s))
     ∙ sym (ap command_of
     (more4 s c.find-end.ensures c.if-end-n.false c.find-end1.ensures c.if-end1-n.false c.find-end2.ensures c.if-end2-n.false c.find-end3.ensures c.if-end3-n.false))
-    ∙ line-fields s _ c.type_size.ensures c.if-size-ne0.false
+    ∙ line-fields s _ c.size_of-size.ensures c.if-size-ne0.false

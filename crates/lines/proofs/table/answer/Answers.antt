@@ -39,56 +39,56 @@ pub returns-in-5 : goal.returns-in-5
 unfolding replies afters words cap
 returns-in-5 c =
     let a = c.args in
-    let both = case-at a.a a.b a.c a.map.now 5 c.in-5.is (c.place.ensures ∙ ap place c.alloc.ensures.result_value) c.alloc.ensures.s_after in
+    let both = case-at a.a a.b a.c a.map.now 5 c.in-5.is (c.place.ensures ∙ ap place c.alloc.ensures.result_value) c.alloc.ensures.store_after in
     record { value = both.0; map_after = both.1 }
 
 pub returns-in-6 : goal.returns-in-6
 unfolding replies afters words cap
 returns-in-6 c =
     let a = c.args in
-    let both = case-at a.a a.b a.c a.map.now 6 c.in-6.is (c.place-in-6.ensures ∙ ap place c.alloc_contiguous.ensures.result_value) c.alloc_contiguous.ensures.s_after in
+    let both = case-at a.a a.b a.c a.map.now 6 c.in-6.is (c.place-in-6.ensures ∙ ap place c.alloc_contiguous.ensures.result_value) c.alloc_contiguous.ensures.store_after in
     record { value = both.0; map_after = both.1 }
 
 pub returns-in-7 : goal.returns-in-7
 unfolding replies afters words cap
 returns-in-7 c =
     let a = c.args in
-    let both = case-at a.a a.b a.c a.map.now 7 c.in-7.is (c.place-in-7.ensures ∙ ap place c.alloc_contiguous-in-7.ensures.result_value) c.alloc_contiguous-in-7.ensures.s_after in
+    let both = case-at a.a a.b a.c a.map.now 7 c.in-7.is (c.place-in-7.ensures ∙ ap place c.alloc_contiguous-in-7.ensures.result_value) c.alloc_contiguous-in-7.ensures.store_after in
     record { value = both.0; map_after = both.1 }
 
 pub returns-in-8 : goal.returns-in-8
 unfolding replies afters words cap
 returns-in-8 c =
     let a = c.args in
-    let both = case-at a.a a.b a.c a.map.now 8 c.in-8.is (c.done.ensures ∙ ap done c.dealloc.ensures.result_value) c.dealloc.ensures.s_after in
+    let both = case-at a.a a.b a.c a.map.now 8 c.in-8.is (c.done.ensures ∙ ap done c.dealloc.ensures.result_value) c.dealloc.ensures.store_after in
     record { value = both.0; map_after = both.1 }
 
 pub returns-in-9 : goal.returns-in-9
 unfolding replies afters words cap
 returns-in-9 c =
     let a = c.args in
-    let both = case-at a.a a.b a.c a.map.now 9 c.in-9.is (c.done-in-9.ensures ∙ ap done c.dealloc_contiguous.ensures.result_value) c.dealloc_contiguous.ensures.s_after in
+    let both = case-at a.a a.b a.c a.map.now 9 c.in-9.is (c.done-in-9.ensures ∙ ap done c.dealloc_contiguous.ensures.result_value) c.dealloc_contiguous.ensures.store_after in
     record { value = both.0; map_after = both.1 }
 
 pub returns-in-10 : goal.returns-in-10
 unfolding replies afters words cap
 returns-in-10 c =
     let a = c.args in
-    let both = case-at a.a a.b a.c a.map.now 10 c.in-10.is (c.done-in-10.ensures ∙ ap done c.dealloc_contiguous_old.ensures.result_value) c.dealloc_contiguous_old.ensures.s_after in
+    let both = case-at a.a a.b a.c a.map.now 10 c.in-10.is (c.done-in-10.ensures ∙ ap done c.dealloc_contiguous_old.ensures.result_value) c.dealloc_contiguous_old.ensures.store_after in
     record { value = both.0; map_after = both.1 }
 
 pub returns-in-11 : goal.returns-in-11
 unfolding replies afters words cap
 returns-in-11 c =
     let a = c.args in
-    let both = case-at a.a a.b a.c a.map.now 11 c.in-11.is (c.done-in-11.ensures ∙ ap done c.insert.ensures.result_value) c.insert.ensures.s_after in
+    let both = case-at a.a a.b a.c a.map.now 11 c.in-11.is (c.done-in-11.ensures ∙ ap done c.insert.ensures.result_value) c.insert.ensures.store_after in
     record { value = both.0; map_after = both.1 }
 
 pub returns-in-12 : goal.returns-in-12
 unfolding replies afters words cap
 returns-in-12 c =
     let a = c.args in
-    let both = case-at a.a a.b a.c a.map.now 12 c.in-12.is (c.done-in-12.ensures ∙ ap done c.remove.ensures.result_value) c.remove.ensures.s_after in
+    let both = case-at a.a a.b a.c a.map.now 12 c.in-12.is (c.done-in-12.ensures ∙ ap done c.remove.ensures.result_value) c.remove.ensures.store_after in
     record { value = both.0; map_after = both.1 }
 
 pub returns-in-13 : goal.returns-in-13
@@ -116,12 +116,12 @@ pub returns-in-0 : goal.returns-in-0
 unfolding replies afters words cap
 returns-in-0 c =
     let a = c.args in
-    let both = case-at a.a a.b a.c a.map.now 0 c.in-0.is refl refl in
+    let both = case-at a.a a.b a.c a.map.now 0 (omega arith) refl refl in
     record { value = both.0; map_after = both.1 }
 
 pub returns-in-0-2 : goal.returns-in-0-2
 unfolding replies afters words cap
 returns-in-0-2 c =
     let a = c.args in
-    let both = case-past a.a a.b a.c a.map.now ? in
+    let both = case-past a.a a.b a.c a.map.now (omega arith) in
     record { value = both.0; map_after = both.1 }

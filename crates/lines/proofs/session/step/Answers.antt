@@ -1,0 +1,84 @@
+-- `lines::session::step` meets its contract: the reply and the map after it are the line's. Assumes nothing.
+use Rattle.std.proofs.Common.{◌≡◌, sym, ap, ◌∙◌, ℕ, ◌+◌, ◌≤◌, List, ◌++◌, length, take, drop, arith}
+use lib.ListN.{get_or, length-append, length-drop}
+use lib.Seq.{take_at, length-take-le}
+use Rattle.std.proofs.lemmas.List.Edits.{sets}
+use Rattle.lines.specs.declared.read.Line.{Line}
+use Rattle.lines.specs.declared.table.Reply.{Reply}
+use Rattle.lines.specs.declared.table.Reply.TheVariants.{No}
+use Rattle.lines.specs.Line.{line_of}
+use Rattle.lines.specs.Reply.{text, replies, afters, allowed, reply_to, opened, map_after}
+use Rattle.lines.specs.Session.{renewed}
+use Rattle.lines.proofs.Replies.{Fine, reply-is, map-is, fine-is, opened-room, opened-more, opened-renewed}
+use Rattle.lines.proofs.Cases.{table-fine}
+use Rattle.lines.proofs.session.step.Goals as goal
+
+-- a line l as it is read, its number in the table, and the reply r, on the words `store`, whose first n are the map
+module _ (line store : List ℕ) {n code : ℕ} {l : Line} {r : Reply} (fits : n ≤ length store) (read : l ≡ line_of line)
+    (is : code ≡ allowed n l.code) (answered : r ≡ get_or (replies l.a l.b l.c (take n store)) code (No 10)) where
+  sized : length (take n store) ≡ n
+  sized = length-take-le n store fits
+
+  -- the reply is the line's
+  said : r ≡ reply_to (take n store) (line_of line)
+  said = answered ∙ reply-is (take n store) l sized is ∙ ap (reply_to (take n store)) read
+
+  -- what has come back of the map, and all the words then
+  module _ {back : List ℕ} (left : back ≡ get_or (afters l.a l.b l.c (take n store)) code (take n store)) (as_long : length back ≡ length (take n store)) where
+    abbrev all : List ℕ
+    all = back ++ drop n store
+
+    sized-back : length back ≡ n
+    sized-back = as_long ∙ sized
+
+    sized-all : length all ≡ length store
+    sized-all = omega (arith, length-append back (drop n store), length-drop n store, sized-back)
+
+    front : take n all ≡ back
+    front = take_at back (drop n store) n sized-back
+
+    -- the map after it is the line's
+    mapped : opened r back ≡ map_after (take n store) (line_of line)
+    mapped =
+        map-is (take n store) l sized is r back (answered ∙ reply-is (take n store) l sized is) left
+        ∙ ap (map_after (take n store)) read
+
+    fine : Fine r back (take n store)
+    fine = fine-is (take n store) l sized is r back answered left (table-fine l.a l.b l.c (take n store) l.code)
+
+pub put_reply-next-requires : goal.put_reply-next-requires
+put_reply-next-requires c =
+    rw (said c.args.line.now c.args.words.now c.requires.0 c.read_line-l.ensures c.allowed-code.ensures c.answer-reply.ensures.value) c.requires.2
+
+pub open-m-requires : goal.open-m-requires
+open-m-requires c =
+    let a = c.args in
+    let d = c.answer-reply in
+    let q = c.requires in
+    let s = sized-back a.line.now a.words.now q.0 c.read_line-l.ensures c.allowed-code.ensures d.ensures.value d.ensures.map_after d.auto.map in
+    let long = sized-all a.line.now a.words.now q.0 c.read_line-l.ensures c.allowed-code.ensures d.ensures.value d.ensures.map_after d.auto.map in
+    let f = fine a.line.now a.words.now q.0 c.read_line-l.ensures c.allowed-code.ensures d.ensures.value d.ensures.map_after d.auto.map in
+    let e = front a.line.now a.words.now q.0 c.read_line-l.ensures c.allowed-code.ensures d.ensures.value d.ensures.map_after d.auto.map in
+    (omega (arith, long, q.0), rw e (opened-room d.result d.new.map (take a.n a.words.now) _ f (omega (arith, long, q.1)) (omega (arith, s, long, q.0))))
+
+pub returns : goal.returns
+returns c =
+    let a = c.args in
+    let d = c.answer-reply in
+    let q = c.requires in
+    let reply = said a.line.now a.words.now q.0 c.read_line-l.ensures c.allowed-code.ensures d.ensures.value in
+    let map = mapped a.line.now a.words.now q.0 c.read_line-l.ensures c.allowed-code.ensures d.ensures.value d.ensures.map_after d.auto.map in
+    let s = sized-back a.line.now a.words.now q.0 c.read_line-l.ensures c.allowed-code.ensures d.ensures.value d.ensures.map_after d.auto.map in
+    let f = fine a.line.now a.words.now q.0 c.read_line-l.ensures c.allowed-code.ensures d.ensures.value d.ensures.map_after d.auto.map in
+    let e = front a.line.now a.words.now q.0 c.read_line-l.ensures c.allowed-code.ensures d.ensures.value d.ensures.map_after d.auto.map in
+    let count = c.open-m.ensures.value ∙ ap (λ (x : List ℕ). length (opened d.result x)) e in
+    record {
+      mapped = c.open-m.ensures.words_after
+          ∙ ap (λ (x : List ℕ). renewed (opened d.result x) (d.new.map ++ drop a.n a.words.now)) e
+          ∙ opened-renewed d.new.map a.words.now a.n s d.result f
+          ∙ ap (λ (x : List ℕ). renewed x a.words.now) map;
+      count = count ∙ ap length map;
+      more = omega (arith, opened-more d.result d.new.map (take a.n a.words.now) f d.auto.map, s, d.auto.map, count);
+      printed-on = c.put_reply-next.ensures.out_after ∙ ap (λ (x : Reply). sets a.out.now a.at (text x)) reply;
+      next = c.put_reply-next.ensures.value ∙ ap (λ (x : Reply). a.at + length (text x)) reply;
+    }
