@@ -13,7 +13,7 @@ use Rattle.bitmap.specs.declared.base.Base.TheVariants as B
 use Rattle.words.specs.Sizes.{words}
 use Rattle.bitmap.specs.Calls.{answer, after, alloc_says, alloc_after, run_says, run_after, next_says, give_says, give_after, give_run_says, give_run_after, give_run_old_after, range_says, insert_after, remove_after, empty_says, test_says}
 use Rattle.lines.specs.declared.table.Reply.{Reply}
-use Rattle.lines.specs.declared.table.Reply.TheVariants.{At, Yes, Not, No}
+use Rattle.lines.specs.declared.table.Reply.TheVariants.{Yes, Not, No}
 use Rattle.lines.specs.Reply.{place, done, yes, replies, afters, allowed}
 use Rattle.words.proofs.Tests.{sort}
 use Rattle.lines.proofs.Replies.{Fine}

@@ -20,7 +20,7 @@ use Rattle.bitmap.specs.Answer.{Said, given, refused, refuse}
 use Rattle.bitmap.specs.Calls.{answer, misplaced, found_run, ranged, alloc_says, run_says, next_says, give_says, give_run_says, range_says, empty_says, test_says}
 use Rattle.lines.specs.declared.read.Line.{Line}
 use Rattle.lines.specs.declared.table.Reply.{Reply}
-use Rattle.lines.specs.declared.table.Reply.TheVariants.{At, Yes, Not, No}
+use Rattle.lines.specs.declared.table.Reply.TheVariants.{Yes, Not, No}
 use Rattle.lines.specs.Number.{number_of, decimal}
 use Rattle.lines.specs.Reply.{number_in, place, done, yes, replies, allowed, reply_to}
 use Rattle.lines.specs.Session.{most_words}

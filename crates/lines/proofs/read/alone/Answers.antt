@@ -1,6 +1,5 @@
 -- `lines::read::alone` meets its contract. Assumes nothing.
 use mathlib.Core.Path.{refl}
-use borrow.Author.Rules.{rules}
 use Rattle.lines.specs.Line.{alone}
 use Rattle.lines.proofs.Texts.{pick-yes, pick-no}
 use Rattle.lines.proofs.read.alone.Goals as goal

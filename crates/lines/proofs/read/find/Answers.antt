@@ -1,9 +1,5 @@
 -- `lines::read::find` meets its contract. The rest of the search is the whole search. Assumes nothing.
-use mathlib.Core.Path.{◌≡◌, refl}
-use Prim.Native.Nat.{◌+◌, ◌-◌, ◌≤◌}
 use native.Mathlib.Omega.{arith}
-use lib.ListN.{length, drop}
-use Rattle.lines.specs.Split.{before}
 use Rattle.lines.proofs.Splits.{search-at, search-on, search-end}
 use Rattle.lines.proofs.read.find.Goals as goal
 

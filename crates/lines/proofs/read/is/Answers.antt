@@ -1,9 +1,6 @@
 -- `lines::read::is` meets its contract. What is left to compare says what the whole texts say. Assumes nothing.
-use mathlib.Core.Path.{◌≡◌, refl, sym, ◌∙◌}
-use Prim.Native.Nat.{◌-◌, ◌≤◌}
+use mathlib.Core.Path.{sym, ◌∙◌}
 use native.Mathlib.Omega.{arith}
-use lib.ListN.{length, drop}
-use Rattle.lines.specs.Line.{same}
 use Rattle.lines.proofs.Texts.{same-ne, same-off, same-on, same-end}
 use Rattle.lines.proofs.read.is.Goals as goal
 

@@ -1,10 +1,9 @@
 -- `lines::read::number` meets its contract. What is left to read, after the value so far, says what the whole text says. Assumes nothing.
-use mathlib.Core.Path.{◌≡◌, refl, sym, ◌∙◌}
+use mathlib.Core.Path.{◌≡◌}
 use Prim.Native.Nat.{◌-◌, ◌≤◌, ◌<◌}
-use native.Mathlib.Omega.{arith}
 use lib.ListN.{length, drop}
 use Rattle.lines.specs.Number.{digits?, value}
-use Rattle.lines.proofs.Numbers.{tens, tens-suc, tens-zero, tens-le, digits-low, digits-high, digits-on, digits-end, value-on, value-end, number-empty, number-long, number-not, number-is}
+use Rattle.lines.proofs.Numbers.{tens}
 use Rattle.lines.proofs.read.number.Given as goal
 
 abbrev pub invariant-loop-i : goal.invariant-loop-i

@@ -1,6 +1,5 @@
 -- `lines::read::size_of` meets its contract. Assumes nothing.
 use mathlib.Core.Path.{refl}
-use borrow.Author.Rules.{rules}
 use Rattle.lines.specs.Line.{size_of}
 use Rattle.lines.proofs.Texts.{pick-yes, pick-no}
 use Rattle.lines.proofs.read.size_of.Goals as goal

@@ -1,6 +1,5 @@
 -- `lines::read::with_three` meets its contract. Assumes nothing.
 use mathlib.Core.Path.{refl}
-use borrow.Author.Rules.{rules}
 use Rattle.lines.specs.Line.{with_three}
 use Rattle.lines.proofs.Texts.{pick-yes, pick-no}
 use Rattle.lines.proofs.read.with_three.Goals as goal

@@ -1,6 +1,5 @@
 -- `lines::read::with_two` meets its contract. Assumes nothing.
 use mathlib.Core.Path.{refl}
-use borrow.Author.Rules.{rules}
 use Rattle.lines.specs.Line.{with_two}
 use Rattle.lines.proofs.Texts.{pick-yes, pick-no}
 use Rattle.lines.proofs.read.with_two.Goals as goal

@@ -1,11 +1,8 @@
 -- `lines::session::clear` meets its contract. What is left to clear makes of the words what the whole run makes of them. Assumes nothing.
-use mathlib.Core.Path.{◌≡◌, refl, sym, ◌∙◌}
-use Prim.Native.Nat.{◌-◌, ◌≤◌}
-use native.Mathlib.Nat.{sub-zero}
+use mathlib.Core.Path.{sym, ◌∙◌}
 use native.Mathlib.Omega.{arith}
-use lib.ListN.{length, replicate, length-set}
-use lib.Seq.{sets}
-use Rattle.lines.proofs.Puts.{clear-none, clear-turn}
+use lib.ListN.{length-set}
+use Rattle.lines.proofs.Puts.{clear-turn}
 use Rattle.lines.proofs.session.clear.Goals as goal
 
 pub loop-i-preserved : goal.loop-i-preserved

@@ -1,11 +1,8 @@
 -- `lines::session::clear` meets its contract. What is left to clear makes of the words what the whole run makes of them. Assumes nothing.
-use mathlib.Core.Path.{◌≡◌, refl, sym, ◌∙◌}
+use mathlib.Core.Path.{◌≡◌}
 use Prim.Native.Nat.{◌-◌, ◌≤◌}
-use native.Mathlib.Nat.{sub-zero}
-use native.Mathlib.Omega.{arith}
-use lib.ListN.{length, replicate, length-set}
+use lib.ListN.{length, replicate}
 use lib.Seq.{sets}
-use Rattle.lines.proofs.Puts.{clear-none, clear-turn}
 use Rattle.lines.proofs.session.clear.Given as goal
 
 abbrev pub invariant-loop-i : goal.invariant-loop-i

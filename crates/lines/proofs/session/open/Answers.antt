@@ -1,10 +1,7 @@
 -- `lines::session::open` meets its contract. Assumes nothing.
-use borrow.Author.Rules.{rules}
 use mathlib.Core.Path.{sym, ◌∙◌}
 use Prim.Native.Nat.{ℕ}
-use native.Mathlib.Omega.{arith}
 use lib.ListN.{replicate, length-replicate}
-use Rattle.lines.proofs.Replies.{stays}
 use Rattle.lines.proofs.Puts.{put-front}
 use Rattle.lines.proofs.session.open.Goals as goal
 

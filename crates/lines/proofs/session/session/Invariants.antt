@@ -1,9 +1,7 @@
 -- `lines::session::session` meets its contract: what is left of the session is the whole of it. Assumes nothing.
-use mathlib.Core.Path.{◌∙◌}
 use Prim.Native.Nat.{◌-◌}
-use native.Mathlib.Omega.{arith}
 use lib.ListN.{length}
-use Rattle.lines.proofs.Sessions.{Upto, start as begin, line-room, on, off, finish}
+use Rattle.lines.proofs.Sessions.{Upto}
 use Rattle.lines.proofs.session.session.Given as goal
 
 abbrev pub invariant-loop-i : goal.invariant-loop-i

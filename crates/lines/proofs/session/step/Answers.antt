@@ -1,5 +1,5 @@
 -- `lines::session::step` meets its contract: the reply and the map after it are the line's. Assumes nothing.
-use Rattle.std.proofs.Common.{◌≡◌, sym, ap, ◌∙◌, ℕ, ◌+◌, ◌≤◌, List, ◌++◌, length, take, drop, arith}
+use Rattle.std.proofs.Common.{◌≡◌, ap, ◌∙◌, ℕ, ◌+◌, ◌≤◌, List, ◌++◌, length, take, drop, arith}
 use lib.ListN.{get_or, length-append, length-drop}
 use lib.Seq.{take_at, length-take-le}
 use Rattle.std.proofs.lemmas.List.Edits.{sets}

@@ -3,8 +3,7 @@ use mathlib.Core.Path.{refl, ap, ◌∙◌}
 use native.Mathlib.Omega.{arith}
 use Rattle.words.specs.Sizes.{words, cap}
 use Rattle.lines.specs.Reply.{place, done, yes, replies, afters}
-use Rattle.lines.proofs.Cases.{case-at, case-past, up}
-use borrow.Author.Rules.{rules}
+use Rattle.lines.proofs.Cases.{case-at, case-past}
 use Rattle.lines.proofs.table.answer.Goals as goal
 
 pub returns-in-1 : goal.returns-in-1
