@@ -46,20 +46,28 @@ module _ (line store : List ℕ) {n code : ℕ} {l : Line} {r : Reply} (fits : n
     fine : Fine r back (take n store)
     fine = fine-is (take n store) l sized is r back answered left (table-fine l.a l.b l.c (take n store) l.code)
 
+    known : (length back ≡ n)
+        × (length all ≡ length store)
+        × (take n all ≡ back)
+        × (opened r back ≡ map_after (take n store) (line_of line))
+        × Fine r back (take n store)
+    known = (sized-back, sized-all, front, mapped, fine)
+
 pub put_reply-next-requires : goal.put_reply-next-requires
 put_reply-next-requires c =
-    rw (said c.args.line.now c.args.words.now c.requires.0 c.read_line-l.ensures c.allowed-code.ensures c.answer-reply.ensures.value) c.requires.2
+    let a = c.args in
+    rw (said a.line.now a.words.now c.requires.0 c.read_line-l.ensures c.allowed-code.ensures c.answer-reply.ensures.value) c.requires.2
 
 pub open-m-requires : goal.open-m-requires
 open-m-requires c =
     let a = c.args in
     let d = c.answer-reply in
     let q = c.requires in
-    let s = sized-back a.line.now a.words.now q.0 c.read_line-l.ensures c.allowed-code.ensures d.ensures.value d.ensures.map_after d.auto.map in
-    let long = sized-all a.line.now a.words.now q.0 c.read_line-l.ensures c.allowed-code.ensures d.ensures.value d.ensures.map_after d.auto.map in
-    let f = fine a.line.now a.words.now q.0 c.read_line-l.ensures c.allowed-code.ensures d.ensures.value d.ensures.map_after d.auto.map in
-    let e = front a.line.now a.words.now q.0 c.read_line-l.ensures c.allowed-code.ensures d.ensures.value d.ensures.map_after d.auto.map in
-    (omega (arith, long, q.0), rw e (opened-room d.result d.new.map (take a.n a.words.now) _ f (omega (arith, long, q.1)) (omega (arith, s, long, q.0))))
+    let k =
+    known a.line.now a.words.now q.0 c.read_line-l.ensures c.allowed-code.ensures d.ensures.value d.ensures.map_after d.auto.map in (
+      omega (arith, k.1, q.0),
+      rw k.2 (opened-room d.result d.new.map (take a.n a.words.now) _ k.4 (omega (arith, k.1, q.1)) (omega (arith, k.0, k.1, q.0))),
+    )
 
 pub returns : goal.returns
 returns c =
@@ -67,18 +75,16 @@ returns c =
     let d = c.answer-reply in
     let q = c.requires in
     let reply = said a.line.now a.words.now q.0 c.read_line-l.ensures c.allowed-code.ensures d.ensures.value in
-    let map = mapped a.line.now a.words.now q.0 c.read_line-l.ensures c.allowed-code.ensures d.ensures.value d.ensures.map_after d.auto.map in
-    let s = sized-back a.line.now a.words.now q.0 c.read_line-l.ensures c.allowed-code.ensures d.ensures.value d.ensures.map_after d.auto.map in
-    let f = fine a.line.now a.words.now q.0 c.read_line-l.ensures c.allowed-code.ensures d.ensures.value d.ensures.map_after d.auto.map in
-    let e = front a.line.now a.words.now q.0 c.read_line-l.ensures c.allowed-code.ensures d.ensures.value d.ensures.map_after d.auto.map in
-    let count = c.open-m.ensures.value ∙ ap (λ (x : List ℕ). length (opened d.result x)) e in
+    let k =
+    known a.line.now a.words.now q.0 c.read_line-l.ensures c.allowed-code.ensures d.ensures.value d.ensures.map_after d.auto.map in
+    let count = c.open-m.ensures.value ∙ ap (λ (x : List ℕ). length (opened d.result x)) k.2 in
     record {
       mapped = c.open-m.ensures.words_after
-          ∙ ap (λ (x : List ℕ). renewed (opened d.result x) (d.new.map ++ drop a.n a.words.now)) e
-          ∙ opened-renewed d.new.map a.words.now a.n s d.result f
-          ∙ ap (λ (x : List ℕ). renewed x a.words.now) map;
-      count = count ∙ ap length map;
-      more = omega (arith, opened-more d.result d.new.map (take a.n a.words.now) f d.auto.map, s, d.auto.map, count);
+          ∙ ap (λ (x : List ℕ). renewed (opened d.result x) (d.new.map ++ drop a.n a.words.now)) k.2
+          ∙ opened-renewed d.new.map a.words.now a.n k.0 d.result k.4
+          ∙ ap (λ (x : List ℕ). renewed x a.words.now) k.3;
+      count = count ∙ ap length k.3;
+      more = omega (arith, opened-more d.result d.new.map (take a.n a.words.now) k.4 d.auto.map, k.0, d.auto.map, count);
       printed-on = c.put_reply-next.ensures.out_after ∙ ap (λ (x : Reply). sets a.out.now a.at (text x)) reply;
       next = c.put_reply-next.ensures.value ∙ ap (λ (x : Reply). a.at + length (text x)) reply;
     }
