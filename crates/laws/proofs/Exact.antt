@@ -1,7 +1,7 @@
 -- What the words of a true map say: F is its leaf bits, `is_empty` says that F is empty, `check` says that the map is true, a set has one
 -- true map, and a true map is never refused with 7. Assumes nothing.
 use mathlib.Core.Path.{◌≡◌, refl, sym, ◌∙◌}
-use mathlib.Core.Bool.{Bool, true, false, not, true≢false}
+use mathlib.Core.Bool.{Bool, true, false, true≢false}
 use mathlib.Core.Logic.{◌↔◌, ◌≢◌, ⊎_elim}
 use mathlib.Core.List.{List, [], ◌∷◌}
 use Prim.Native.Nat.{ℕ, zero, suc, ◌<◌}

@@ -18,7 +18,6 @@ use Rattle.bitmap.specs.Answer.{Said, given, refuse}
 use Rattle.bitmap.specs.Calls.{answer, after, alloc_says, alloc_after, give_says, give_after, range_after}
 use Rattle.bitmap.specs.Maps.{TrueStore}
 use Rattle.words.proofs.Levels.{words-level}
-use Rattle.words.proofs.Tests.{neither}
 use Rattle.change.proofs.TrueWay.{single-change, way-true, way-lowest}
 use Rattle.bitmap.proofs.Refusals.{settle-on, given-on}
 use Rattle.laws.specs.Call.{alloc, dealloc, insert, remove, call_says, call_after}

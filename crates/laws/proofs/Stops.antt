@@ -3,11 +3,11 @@ use mathlib.Core.Path.{◌≡◌, refl, sym, ap, ap₂, ◌∙◌}
 use mathlib.Core.Bool.{false}
 use mathlib.Core.Logic.{⊎_elim, ◌≢◌}
 use mathlib.Core.List.{List}
-use Prim.Native.Nat.{ℕ, zero, suc, ◌+◌, ◌-◌, ◌*◌, ◌/◌, ◌%◌, ◌<◌, ◌≤◌}
+use Prim.Native.Nat.{ℕ, zero, suc, ◌+◌, ◌*◌, ◌/◌, ◌%◌, ◌<◌, ◌≤◌}
 use native.Mathlib.Nat.{mod-lt, div-add-mod', le-div_iff_mul-le, eq-or-lt_of_le}
 use native.Mathlib.Decide.{dec_lt, ℕ_discrete}
 use native.Mathlib.Omega.{arith}
-use lib.ListN.{length, take, drop, get_or, get_or-eq_default}
+use lib.ListN.{length, drop, get_or, get_or-eq_default}
 use lib.Seq.{get_or-take, get_or-drop}
 use Rattle.words.specs.declared.kind.Change.{Change}
 use Rattle.words.specs.Turn.{turn, goes}
