@@ -19,5 +19,6 @@ fn main() {
 /// Each machine has an archive of its own there.
 fn made_here() -> PathBuf {
     let root = Path::new(&env::var_os("CARGO_MANIFEST_DIR").expect("cargo sets it")).join("../..");
-    root.join("target/staticlib").join(env::var("CARGO_CFG_TARGET_ARCH").expect("cargo sets it"))
+    root.join("target/staticlib")
+        .join(env::var("CARGO_CFG_TARGET_ARCH").expect("cargo sets it"))
 }
