@@ -1,3 +1,3 @@
 -- What stands beside the functions' own proofs.
 mod Passed
-mod OneAnswer
+pub mod OneAnswer

@@ -1,5 +1,5 @@
--- One answer: of each exported call, two answers and two exits that both meet the generated contract for the same arguments are the same.
--- Assumes nothing.
+-- One answer: of each call as C has it, two answers and two exits that both meet the generated contract for the same arguments are the
+-- same. crates/asogeren_c has the theorems of the exports. Assumes nothing.
 use mathlib.Core.Path.{◌≡◌, refl, sym, ap, ◌∙◌}
 use mathlib.Core.List.{List}
 use Prim.Native.Nat.{ℕ}

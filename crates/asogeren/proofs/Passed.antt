@@ -1,4 +1,4 @@
--- How what a call says crosses, and that an exported call passes on what the call below it says and leaves. Assumes nothing.
+-- How what a call says crosses, and that a call as C has it passes on what the call below it says and leaves. Assumes nothing.
 use mathlib.Core.Path.{◌≡◌, sym, ap, ◌∙◌}
 use mathlib.Core.List.{List}
 use Prim.Native.Nat.{ℕ}
@@ -11,7 +11,7 @@ use Rattle.asogeren.specs.Crossed.{crossed}
 pub said-case : {A : Type 0} (say : A → Said) {r : Answer} (x y : A) → x ≡ y → r ≡ crossed (say y) → r ≡ crossed (say x)
 said-case say x y e p = p ∙ ap (λ a. crossed (say a)) (sym e)
 
--- an exported call passes on what the call below it says
+-- a call as C has it passes on what the call below it says
 pub passed : {r : Answer} {said s : Said} → r ≡ crossed said → said ≡ s → r ≡ crossed s
 passed p q = p ∙ ap crossed q
 

@@ -1,2 +1,2 @@
--- What the contracts of the exported calls cite, beside the definitions of the calls themselves.
+-- What the contracts of the calls as C has them cite, beside the definitions of the calls themselves.
 pub mod Crossed

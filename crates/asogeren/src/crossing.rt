@@ -7,7 +7,7 @@ ghost use Rattle.asogeren.specs.Crossed.{crossed};
 use bitmap::{Changed, Refusal, Taken, Told};
 use image::{Got, Wrote};
 
-// What every exported call returns: refusal 0 and a value, or the number of the refusal and value 0.
+// What every call returns: refusal 0 and a value, or the number of the refusal and value 0.
 #[repr(C)]
 #[derive(Clone, Copy)]
 pub struct Answer {

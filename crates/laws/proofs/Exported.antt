@@ -1,5 +1,5 @@
--- The theorems are about the exported calls too: each answers what `call_says` has, as two numbers, and leaves what `call_after` makes;
--- and refusal 0 means exactly that a value is given. Assumes nothing.
+-- The theorems are about the calls as C has them too: each answers what `call_says` has, as two numbers, and leaves what `call_after`
+-- makes; and refusal 0 means exactly that a value is given. crates/asogeren_c states each of the export. Assumes nothing.
 use mathlib.Core.Path.{◌≡◌, refl, sym, ap, ◌∙◌}
 use mathlib.Core.Bool.{true≢false}
 use mathlib.Core.List.{List}

@@ -10,11 +10,11 @@ use Rattle.laws.specs.Call.{Call, call_says, call_after}
 abbrev pub Does : Call → Said → List ℕ → List ℕ → Type 0
 Does c x entry exit = (x ≡ answer (call_says c) entry) × (exit ≡ after (call_after c) entry)
 
--- an exported call answers in two numbers: they are what x crosses as, and refusal 0 means exactly that x gives a value
+-- a call as C has it answers in two numbers: they are what x crosses as, and refusal 0 means exactly that x gives a value
 pub record Crosses (x : Said) (r : Answer) : Type 0 where
   pub is : r ≡ crossed x
   pub given-exactly : (r.refusal ≡ 0) ↔ ((v : ℕ) × (x ≡ given v))
 
--- the call c as it is exported
+-- the call c as C has it, which is how it is exported
 abbrev pub Exported : Call → Answer → List ℕ → List ℕ → Type 0
 Exported c r entry exit = Crosses (answer (call_says c) entry) r × (exit ≡ after (call_after c) entry)

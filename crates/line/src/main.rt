@@ -6,7 +6,6 @@ ghost use Rattle.std.specs.Prelude.{◌≤◌, length};
 
 use bitmap::BitAlloc64K;
 use lines::Went;
-use std::alloc::AllocError;
 use std::io::{IsTerminal, Read};
 
 // How many bytes are read at most, and printed for them at most.
@@ -116,10 +115,9 @@ fn run(rt: &HostRuntime, input: &mut [u8], words: &mut [u16], output: &mut [u8])
     say_if_cut(rt);
 }
 
-fn main(rt: HostRuntime) -> Result<(), AllocError> {
-    let mut input = vec![in rt.alloc(); 0u8; READ]?;
+fn main(rt: HostRuntime) {
+    let mut input = [0u8; READ];
     let mut words = [0u16; BitAlloc64K::WORDS];
-    let mut output = vec![in rt.alloc(); 0u8; PRINTED]?;
+    let mut output = [0u8; PRINTED];
     run(&rt, &mut input, &mut words, &mut output);
-    Ok(())
 }

@@ -2,7 +2,7 @@
 // All the work is in the crate lines. Where there is no map, no word is printed.
 #![tactic(auto)]
 
-ghost use Rattle.std.specs.Prelude.{◌≤◌, length};
+ghost use Rattle.std.specs.Prelude.{◌≤◌, length, IfOk};
 
 use bitmap::{BitAlloc4K, BitAlloc16, BitAlloc64K, BitAlloc256};
 use lines::Printed;
@@ -10,23 +10,38 @@ use std::io;
 use std::io::Read;
 
 // How many bytes are read at most.
-const READ: u64 = 65536;
+const READ: usize = 65536;
 
 // 6 bytes for each byte read.
 const PRINTED: usize = 393216;
 
 fn main(rt: HostRuntime) -> io::Result<()> {
-    let mut input = Vec::new(rt.alloc());
-    rt.stdin().take(READ).read_to_end(&mut input)?;
+    let mut input = [0u8; READ];
+    let n = read_full(&rt, &mut input)?;
     let mut words = [0u16; BitAlloc64K::WORDS];
-    let mut output = vec![in rt.alloc(); 0u8; PRINTED]?;
-    match lines::lines(&input, &mut words, &mut output) {
+    let mut output = [0u8; PRINTED];
+    match lines::lines(&input[..n], &mut words, &mut output) {
         Printed::Bytes(count) => {
             print(&rt, &output, count)?;
             show(&rt, &words, words_of(output[4]))
         }
         Printed::No(_) => Ok(()),
     }
+}
+
+// Reads until the input ends or `to` is full; answers how many bytes came.
+fn read_full(rt: &HostRuntime, to: &mut [u8]) -> io::Result<usize>
+    ensures { IfOk result (λ n. n ≤ length to.old) }
+{
+    let mut have = 0;
+    while have < to.len() {
+        let got = rt.stdin().read(&mut to[have..])?;
+        if got == 0 {
+            return Ok(have);
+        }
+        have += got;
+    }
+    Ok(have)
 }
 
 // The first n bytes.

@@ -2,7 +2,7 @@
 // Each line of the input has eight numbers: levels, call, three arguments, refusal, value, and a checksum of the words afterwards.
 #![tactic(auto)]
 
-ghost use Rattle.std.specs.Prelude.{◌<◌, ◌≤◌, length};
+ghost use Rattle.std.specs.Prelude.{◌<◌, ◌≤◌, length, IfOk};
 
 use asogeren::Answer;
 use bitmap::{BitAlloc1M, BitAlloc4K, BitAlloc16, BitAlloc64K, BitAlloc256};
@@ -159,11 +159,26 @@ fn replay(rt: &impl Print, input: &[u8], room: &mut [u16]) -> io::Result<()> {
 }
 
 // How many bytes of the list are read at most.
-const READ: u64 = 262144;
+const READ: usize = 262144;
+
+// Reads until the input ends or `to` is full; answers how many bytes came.
+fn read_full(rt: &HostRuntime, to: &mut [u8]) -> io::Result<usize>
+    ensures { IfOk result (λ n. n ≤ length to.old) }
+{
+    let mut have = 0;
+    while have < to.len() {
+        let got = rt.stdin().read(&mut to[have..])?;
+        if got == 0 {
+            return Ok(have);
+        }
+        have += got;
+    }
+    Ok(have)
+}
 
 fn main(rt: HostRuntime) -> io::Result<()> {
-    let mut input = Vec::new(rt.alloc());
-    rt.stdin().take(READ).read_to_end(&mut input)?;
-    let mut room = vec![in rt.alloc(); 0u16; BitAlloc1M::WORDS]?;
-    replay(&rt, &input, &mut room)
+    let mut input = [0u8; READ];
+    let n = read_full(&rt, &mut input)?;
+    let mut room = [0u16; BitAlloc1M::WORDS];
+    replay(&rt, &input[..n], &mut room)
 }

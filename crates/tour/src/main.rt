@@ -3,7 +3,7 @@
 // call with its answer and, after a change, the words that are not 0.
 #![tactic(auto)]
 
-ghost use Rattle.std.specs.Prelude.{◌≤◌, length};
+ghost use Rattle.std.specs.Prelude.{◌≤◌, length, IfOk};
 
 use bitmap::{
     BitAlloc1M, BitAlloc4K, BitAlloc16, BitAlloc16M, BitAlloc64K, BitAlloc256, BitAlloc256M,
@@ -17,17 +17,32 @@ mod script;
 mod show;
 
 // How many bytes of the script are read at most.
-const READ: u64 = 65536;
+const READ: usize = 65536;
 
 fn main(rt: HostRuntime) -> io::Result<()> {
     let mut out = show::begin(rt.stdout());
     sizes(&mut out);
-    let mut input = Vec::new(rt.alloc());
-    rt.stdin().take(READ).read_to_end(&mut input)?;
+    let mut input = [0u8; READ];
+    let n = read_full(&rt, &mut input)?;
     // one word more than a map of four levels has
     let mut room = [0u16; BitAlloc64K::WORDS + 1];
-    play(&mut out, &input, &mut room);
+    play(&mut out, &input[..n], &mut room);
     show::end(out)
+}
+
+// Reads until the input ends or `to` is full; answers how many bytes came.
+fn read_full(rt: &HostRuntime, to: &mut [u8]) -> io::Result<usize>
+    ensures { IfOk result (λ n. n ≤ length to.old) }
+{
+    let mut have = 0;
+    while have < to.len() {
+        let got = rt.stdin().read(&mut to[have..])?;
+        if got == 0 {
+            return Ok(have);
+        }
+        have += got;
+    }
+    Ok(have)
 }
 
 fn size(out: &mut Out, name: &[u8], cap: usize, words: usize) {

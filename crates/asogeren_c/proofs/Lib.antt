@@ -1,0 +1,3 @@
+-- What is proved of the exported calls beside their contracts.
+mod OneAnswer
+mod Exported
