@@ -1,3 +1,2 @@
 -- What stands beside the functions' own proofs.
-mod Passed
 pub mod OneAnswer

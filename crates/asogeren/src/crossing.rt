@@ -1,11 +1,9 @@
-// How an answer crosses to C. specs/Crossed.antt says it of what a call says, specs/Answer.antt of bitmap what each case says.
+// How an answer crosses to C. specs/Crossed.antt says it of what a call says, specs/Answer.antt of bitmap what each answer says.
 ghost use Rattle.std.specs.Prelude.{◌≡◌};
-ghost use Rattle.bitmap.specs.Answer.{given, refused, number, taken, changed, told};
-ghost use Rattle.image.specs.Answer.{wrote, gotten};
+ghost use Rattle.bitmap.specs.Answer.{given, refused, number};
 ghost use Rattle.asogeren.specs.Crossed.{crossed};
 
-use bitmap::{Changed, Refusal, Taken, Told};
-use image::{Got, Wrote};
+use bitmap::Refusal;
 
 // What every call returns: refusal 0 and a value, or the number of the refusal and value 0.
 #[repr(C)]
@@ -15,7 +13,7 @@ pub struct Answer {
     pub value: u64,
 }
 
-pub fn of_value(v: u64) -> Answer
+fn of_value(v: u64) -> Answer
     ensures { result ≡ crossed (given v) }
 {
     Answer {
@@ -24,7 +22,7 @@ pub fn of_value(v: u64) -> Answer
     }
 }
 
-pub fn of_refusal(n: Refusal) -> Answer
+fn of_refusal(n: Refusal) -> Answer
     ensures { result ≡ crossed (refused (number n)) }
 {
     Answer {
@@ -33,53 +31,56 @@ pub fn of_refusal(n: Refusal) -> Answer
     }
 }
 
-// A take or a look-up: the position.
-pub fn from_taken(t: Taken) -> Answer
-    ensures { result ≡ crossed (taken t) }
-{
-    match t {
-        Taken::At(p) => of_value(p as u64),
-        Taken::No(n) => of_refusal(n),
+// What a call gives where it is not refused, and the number that it crosses as.
+pub trait Value {
+    ghost use Rattle.std.specs.Prelude.{ℕ};
+
+    ghost counts: { Self → ℕ };
+
+    fn count(self) -> u64
+        ensures { result ≡ counts self };
+}
+
+// A take, a look-up and an image give a number.
+impl Value for usize {
+    ghost counts = { λ n. n };
+
+    fn count(self) -> u64 {
+        self as u64
     }
 }
 
-// A change: nothing, which is 0.
-pub fn from_changed(c: Changed) -> Answer
-    ensures { result ≡ crossed (changed c) }
-{
-    match c {
-        Changed::Done => of_value(0),
-        Changed::No(n) => of_refusal(n),
+// A change gives nothing, which is 0.
+impl Value for () {
+    ghost counts = { λ _. 0 };
+
+    fn count(self) -> u64 {
+        0
     }
 }
 
-// A test: 1 for yes and 0 for not.
-pub fn from_told(t: Told) -> Answer
-    ensures { result ≡ crossed (told t) }
-{
-    match t {
-        Told::Yes => of_value(1),
-        Told::Not => of_value(0),
-        Told::No(n) => of_refusal(n),
+// A test gives 1 for yes and 0 for not.
+impl Value for bool {
+    ghost use Rattle.bitmap.specs.Answer.{digit};
+
+    ghost counts = { digit };
+
+    fn count(self) -> u64 {
+        if self { 1 } else { 0 }
     }
 }
 
-// Writing an image: how many bytes were filled.
-pub fn from_wrote(w: Wrote) -> Answer
-    ensures { result ≡ crossed (wrote w) }
-{
-    match w {
-        Wrote::Bytes(n) => of_value(n as u64),
-        Wrote::No(n) => of_refusal(n),
-    }
-}
+impl<T: Value> From<Result<T, Refusal>> for Answer {
+    ghost use Rattle.std.specs.Prelude.{◌≡◌};
+    ghost use Rattle.bitmap.specs.Answer.{said};
+    ghost use Rattle.asogeren.specs.Crossed.{crossed};
 
-// Reading an image: how many levels the map has.
-pub fn from_got(g: Got) -> Answer
-    ensures { result ≡ crossed (gotten g) }
-{
-    match g {
-        Got::Levels(n) => of_value(n as u64),
-        Got::No(n) => of_refusal(n),
+    ghost from_gives = { λ answer a. a ≡ crossed (said T.counts answer) };
+
+    fn from(answer: Result<T, Refusal>) -> Answer {
+        match answer {
+            Ok(v) => of_value(v.count()),
+            Err(n) => of_refusal(n),
+        }
     }
 }

@@ -2,15 +2,13 @@
 // crates/asogeren_c exports each to C under its name. Every one is total: it takes any words, bytes and numbers.
 #![tactic(auto)]
 
-ghost use Rattle.std.specs.Prelude.{◌≡◌};
-ghost use Rattle.bitmap.specs.declared.base.Base.TheVariants.{Any, At};
+ghost use Rattle.std.specs.Prelude.{◌≡◌, Some, None};
 ghost use Rattle.bitmap.specs.Calls.{answer, after, alloc_says, alloc_after, run_says, run_after, next_says, give_says, give_after, give_run_says, give_run_after, give_run_old_after, range_says, insert_after, remove_after, empty_says, test_says, check_says};
 ghost use Rattle.image.specs.Calls.{write_says, write_after, read_says, read_after};
 ghost use Rattle.asogeren.specs.Crossed.{crossed};
 
 mod crossing;
 
-use bitmap::{Base, Changed};
 pub use crossing::Answer;
 
 // Takes the lowest free position.
@@ -18,15 +16,15 @@ pub fn asogeren_alloc(store: &mut [u16]) -> Answer
     ensures value { result ≡ crossed (answer alloc_says store.old) }
     ensures store_after { store.new ≡ after alloc_after store.old }
 {
-    crossing::from_taken(bitmap::alloc(store))
+    Answer::from(bitmap::alloc(store))
 }
 
 // Takes the lowest run of size positions that starts at a multiple of 2^align_log2.
 pub fn asogeren_alloc_contiguous(store: &mut [u16], size: usize, align_log2: usize) -> Answer
-    ensures value { result ≡ crossed (answer (run_says Any size align_log2) store.old) }
-    ensures store_after { store.new ≡ after (run_after Any size align_log2) store.old }
+    ensures value { result ≡ crossed (answer (run_says None size align_log2) store.old) }
+    ensures store_after { store.new ≡ after (run_after None size align_log2) store.old }
 {
-    crossing::from_taken(bitmap::alloc_contiguous(store, Base::Any, size, align_log2))
+    Answer::from(bitmap::alloc_contiguous(store, None, size, align_log2))
 }
 
 // Takes the run of size positions at base, a multiple of 2^align_log2.
@@ -36,17 +34,17 @@ pub fn asogeren_alloc_contiguous_at(
     size: usize,
     align_log2: usize,
 ) -> Answer
-    ensures value { result ≡ crossed (answer (run_says (At base) size align_log2) store.old) }
-    ensures store_after { store.new ≡ after (run_after (At base) size align_log2) store.old }
+    ensures value { result ≡ crossed (answer (run_says (Some base) size align_log2) store.old) }
+    ensures store_after { store.new ≡ after (run_after (Some base) size align_log2) store.old }
 {
-    crossing::from_taken(bitmap::alloc_contiguous(store, Base::At(base), size, align_log2))
+    Answer::from(bitmap::alloc_contiguous(store, Some(base), size, align_log2))
 }
 
 // The lowest free position that is key or more.
 pub fn asogeren_next(store: &[u16], key: usize) -> Answer
     ensures { result ≡ crossed (answer (next_says key) store.now) }
 {
-    crossing::from_taken(bitmap::next(store, key))
+    Answer::from(bitmap::next(store, key))
 }
 
 // Gives the position key back.
@@ -54,11 +52,7 @@ pub fn asogeren_dealloc(store: &mut [u16], key: usize) -> Answer
     ensures value { result ≡ crossed (answer (give_says key) store.old) }
     ensures store_after { store.new ≡ after (give_after key) store.old }
 {
-    // Matched in place, here and in insert and remove: handed on as a value, the answer is copied.
-    match bitmap::dealloc(store, key) {
-        Changed::Done => crossing::of_value(0),
-        Changed::No(n) => crossing::of_refusal(n),
-    }
+    Answer::from(bitmap::dealloc(store, key))
 }
 
 // Gives size positions from base on back: all of them, or none where one was free already.
@@ -66,7 +60,7 @@ pub fn asogeren_dealloc_contiguous(store: &mut [u16], base: usize, size: usize) 
     ensures value { result ≡ crossed (answer (give_run_says base size) store.old) }
     ensures store_after { store.new ≡ after (give_run_after base size) store.old }
 {
-    crossing::from_changed(bitmap::dealloc_contiguous(store, base, size))
+    Answer::from(bitmap::dealloc_contiguous(store, base, size))
 }
 
 // The crate's way: where one was free already, the leaf words before its word are freed all the same.
@@ -74,7 +68,7 @@ pub fn asogeren_dealloc_contiguous_old(store: &mut [u16], base: usize, size: usi
     ensures value { result ≡ crossed (answer (give_run_says base size) store.old) }
     ensures store_after { store.new ≡ after (give_run_old_after base size) store.old }
 {
-    crossing::from_changed(bitmap::dealloc_contiguous_old(store, base, size))
+    Answer::from(bitmap::dealloc_contiguous_old(store, base, size))
 }
 
 // Makes the positions from start up to end free.
@@ -82,10 +76,7 @@ pub fn asogeren_insert(store: &mut [u16], start: usize, end: usize) -> Answer
     ensures value { result ≡ crossed (answer (range_says start end) store.old) }
     ensures store_after { store.new ≡ after (insert_after start end) store.old }
 {
-    match bitmap::insert(store, start, end) {
-        Changed::Done => crossing::of_value(0),
-        Changed::No(n) => crossing::of_refusal(n),
-    }
+    Answer::from(bitmap::insert(store, start, end))
 }
 
 // Makes the positions from start up to end taken.
@@ -93,31 +84,28 @@ pub fn asogeren_remove(store: &mut [u16], start: usize, end: usize) -> Answer
     ensures value { result ≡ crossed (answer (range_says start end) store.old) }
     ensures store_after { store.new ≡ after (remove_after start end) store.old }
 {
-    match bitmap::remove(store, start, end) {
-        Changed::Done => crossing::of_value(0),
-        Changed::No(n) => crossing::of_refusal(n),
-    }
+    Answer::from(bitmap::remove(store, start, end))
 }
 
 // Whether no position is free: the first word is 0.
 pub fn asogeren_is_empty(store: &[u16]) -> Answer
     ensures { result ≡ crossed (answer empty_says store.now) }
 {
-    crossing::from_told(bitmap::is_empty(store))
+    Answer::from(bitmap::is_empty(store))
 }
 
 // Whether the leaf bit of the position key is set.
 pub fn asogeren_test(store: &[u16], key: usize) -> Answer
     ensures { result ≡ crossed (answer (test_says key) store.now) }
 {
-    crossing::from_told(bitmap::test(store, key))
+    Answer::from(bitmap::test(store, key))
 }
 
 // Whether the map is true.
 pub fn asogeren_check(store: &[u16]) -> Answer
     ensures { result ≡ crossed (answer check_says store.now) }
 {
-    crossing::from_told(bitmap::check(store))
+    Answer::from(bitmap::check(store))
 }
 
 // Writes the image of a true map to the first bytes of the target.
@@ -125,7 +113,7 @@ pub fn asogeren_image_write(store: &[u16], target: &mut [u8]) -> Answer
     ensures value { result ≡ crossed (write_says store.now target.old) }
     ensures target_after { target.new ≡ write_after store.now target.old }
 {
-    crossing::from_wrote(image::write(store, target))
+    Answer::from(image::write(store, target))
 }
 
 // Reads the image of a true map into the first words of the target.
@@ -133,5 +121,5 @@ pub fn asogeren_image_read(bytes: &[u8], target: &mut [u16]) -> Answer
     ensures value { result ≡ crossed (read_says bytes.now target.old) }
     ensures target_after { target.new ≡ read_after bytes.now target.old }
 {
-    crossing::from_got(image::read(bytes, target))
+    Answer::from(image::read(bytes, target))
 }

@@ -2,7 +2,7 @@
 -- refusal 0 means exactly that a value is given. The contract is that of the function of crates/asogeren, of which crates/laws proves it.
 -- Assumes nothing.
 use Rattle.std.proofs.Common.{◌≡◌}
-use Rattle.bitmap.specs.declared.base.Base.TheVariants.{Any, At}
+use Rattle.std.specs.Prelude.{Some, None}
 use Rattle.bitmap.specs.Contract.{Means}
 use Rattle.image.specs.Calls.{write_says, write_after, read_says, read_after}
 use Rattle.laws.specs.Call as C
@@ -40,10 +40,10 @@ use Rattle.asogeren_c.proofs.asogeren_image_read.Reads as image-read-reads
 pub alloc-exported : Means alloc.ended alloc-reads.Post (λ κs a r e. Exported C.alloc r a.0.now e.0.now)
 alloc-exported = library.alloc-exported
 
-pub alloc-contiguous-exported : Means alloc-contiguous.ended alloc-contiguous-reads.Post (λ κs a r e. Exported (C.alloc_contiguous Any a.1.0 a.1.1.0) r a.0.now e.0.now)
+pub alloc-contiguous-exported : Means alloc-contiguous.ended alloc-contiguous-reads.Post (λ κs a r e. Exported (C.alloc_contiguous None a.1.0 a.1.1.0) r a.0.now e.0.now)
 alloc-contiguous-exported = library.alloc-contiguous-exported
 
-pub alloc-contiguous-at-exported : Means alloc-contiguous-at.ended alloc-contiguous-at-reads.Post (λ κs a r e. Exported (C.alloc_contiguous (At a.1.0) a.1.1.0 a.1.1.1.0) r a.0.now e.0.now)
+pub alloc-contiguous-at-exported : Means alloc-contiguous-at.ended alloc-contiguous-at-reads.Post (λ κs a r e. Exported (C.alloc_contiguous (Some a.1.0) a.1.1.0 a.1.1.1.0) r a.0.now e.0.now)
 alloc-contiguous-at-exported = library.alloc-contiguous-at-exported
 
 pub next-exported : Means next.ended next-reads.Post (λ κs a r e. Exported (C.next a.1.0) r a.0.now a.0.now)

@@ -2,8 +2,7 @@
 // include/asogeren.h declares them for C. Every one is total: it takes any words, bytes and numbers.
 #![tactic(auto)]
 
-ghost use Rattle.std.specs.Prelude.{◌≡◌};
-ghost use Rattle.bitmap.specs.declared.base.Base.TheVariants.{Any, At};
+ghost use Rattle.std.specs.Prelude.{◌≡◌, Some, None};
 ghost use Rattle.bitmap.specs.Calls.{answer, after, alloc_says, alloc_after, run_says, run_after, next_says, give_says, give_after, give_run_says, give_run_after, give_run_old_after, range_says, insert_after, remove_after, empty_says, test_says, check_says};
 ghost use Rattle.image.specs.Calls.{write_says, write_after, read_says, read_after};
 ghost use Rattle.asogeren.specs.Crossed.{crossed};
@@ -26,8 +25,8 @@ pub extern "C" fn asogeren_alloc_contiguous(
     size: usize,
     align_log2: usize,
 ) -> Answer
-    ensures value { result ≡ crossed (answer (run_says Any size align_log2) store.old) }
-    ensures store_after { store.new ≡ after (run_after Any size align_log2) store.old }
+    ensures value { result ≡ crossed (answer (run_says None size align_log2) store.old) }
+    ensures store_after { store.new ≡ after (run_after None size align_log2) store.old }
 {
     asogeren::asogeren_alloc_contiguous(store, size, align_log2)
 }
@@ -40,8 +39,8 @@ pub extern "C" fn asogeren_alloc_contiguous_at(
     size: usize,
     align_log2: usize,
 ) -> Answer
-    ensures value { result ≡ crossed (answer (run_says (At base) size align_log2) store.old) }
-    ensures store_after { store.new ≡ after (run_after (At base) size align_log2) store.old }
+    ensures value { result ≡ crossed (answer (run_says (Some base) size align_log2) store.old) }
+    ensures store_after { store.new ≡ after (run_after (Some base) size align_log2) store.old }
 {
     asogeren::asogeren_alloc_contiguous_at(store, base, size, align_log2)
 }

@@ -2,7 +2,7 @@
 use mathlib.Core.Path.{◌≡◌, refl, sym, ◌∙◌}
 use mathlib.Core.Bool.{Bool, true, false, cond}
 use mathlib.Core.List.{List}
-use Prim.Native.Nat.{ℕ, ◌+◌, ◌<◌, ◌≤◌}
+use Prim.Native.Nat.{ℕ, ◌+◌, ◌-◌, ◌^◌, min, ◌<◌, ◌≤◌}
 use native.Mathlib.Omega.{arith}
 use lib.Dec.{leb, ltb}
 use borrow.Author.Tests.{lt-ltb, le-ltb, leb-true, leb-false}
@@ -15,8 +15,9 @@ use Rattle.bitmap.specs.declared.way.Way.TheVariants.{Whole, Old}
 use Rattle.bitmap.specs.Answer.{Said, given, refused, refuse}
 use Rattle.bitmap.specs.Calls.{settle, ranged, give_run_says}
 use Rattle.bitmap.specs.Ways.{given_back, given_after}
-use Rattle.bitmap.proofs.Refusals.{settle-no, settle-on}
-use Rattle.bitmap.proofs.Ranges.{range-some, range-refused}
+use Rattle.bitmap.proofs.Refusals.{refuses, passes, settle-no, settle-on}
+use Rattle.bitmap.proofs.Ranges.{range-some, range-refused, range-given, range-end}
+use Rattle.words.proofs.Levels.{cap-small}
 
 -- ---- all or nothing, of the positions from a up to b
 
@@ -36,7 +37,7 @@ module _ (k base size : ℕ) (s : List ℕ) where
   abbrev end : ℕ
   end = base + size
 
-  abbrev Gave : Way → Said → List ℕ → Type 0
+  abbrev pub Gave : Way → Said → List ℕ → Type 0
   Gave way x t = (x ≡ give_run_says base size k s) × (t ≡ given_after way base size k s)
 
   -- the range is refused
@@ -62,3 +63,29 @@ module _ (k base size : ℕ) (s : List ℕ) where
 
     pub run-given : (way : Way) {t : List ℕ} {x : Said} → t ≡ given_back way k s base end → x ≡ refuse 6 (ltb (first_leaf k s base end) end) (given 0) → Gave way x t
     run-given way et ex = (whole ex, et ∙ words-are way)
+
+-- ---- the same by the end as `run_end` finds it
+
+module _ (k base size end : ℕ) (s : List ℕ) (way : Way) (small : k ≤ 6) (end-is : end ≡ min (base + size) (2 ^ 64 - 1)) (number : base < 2 ^ 64) where
+  sum : ranged base end k (given 0) ≡ ranged base (base + size) k (given 0)
+  sum = range-end k base size end (given 0) small end-is number
+
+  pub end-refused : {n : ℕ} → refused n ≡ ranged base end k (given 0) → Gave k base size s way (refused n) s
+  end-refused {n} e = run-refused k base size s way n (e ∙ sum)
+
+  -- the range is in the map, and whether none of it was free
+  module _ (e : given 0 ≡ ranged base end k (given 0)) {t : List ℕ} (words-are : t ≡ given_back way k s base end) where
+    fits : (base < base + size) × (base + size ≤ cap k)
+    fits = range-given k base (base + size) (given 0) (e ∙ sum)
+
+    exact : end ≡ base + size
+    exact = omega (arith, fits, cap-small k small)
+
+    gave : {x : Said} → x ≡ refuse 6 (ltb (first_leaf k s base end) end) (given 0) → Gave k base size s way x t
+    gave h = run-given k base size s fits.0 fits.1 way (rw exact at words-are) (rw exact at h)
+
+    pub end-free : false ≡ leb end (first_leaf k s base end) → Gave k base size s way (refused 6) t
+    end-free f = gave (refuses 6 _ _ (lt-ltb _ _ (leb-false _ _ (sym f))))
+
+    pub end-whole : true ≡ leb end (first_leaf k s base end) → Gave k base size s way (given 0) t
+    end-whole f = gave (passes 6 _ _ (le-ltb _ _ (leb-true _ _ (sym f))) refl)

@@ -4,8 +4,8 @@ use mathlib.Core.List.{[], ◌∷◌}
 use Prim.Native.Nat.{ℕ}
 use native.Mathlib.Omega.{arith}
 use lib.ListN.{get_or}
-use Rattle.bitmap.specs.declared.answers.Refusal.{Refusal}
-use Rattle.bitmap.specs.declared.answers.Refusal.TheVariants.{WordCount, PastEnd, NoSize, Alignment, NoneFree, AlreadyFree, Untrue, BadImage, TooShort, BadLine, NoAllowance, BookFull, NoLease, BadBook, NoHolder, BadRun, Overlap, BlockSize}
+use Rattle.bitmap.specs.declared.refusal.Refusal.{Refusal}
+use Rattle.bitmap.specs.declared.refusal.Refusal.TheVariants.{WordCount, PastEnd, NoSize, Alignment, NoneFree, AlreadyFree, Untrue, BadImage, TooShort, BadLine, NoAllowance, BookFull, NoLease, BadBook, NoHolder, BadRun, Overlap, BlockSize}
 use Rattle.bitmap.specs.Answer.{given, refused, number}
 
 -- the refusal of a number

@@ -3,37 +3,33 @@ use mathlib.Core.Path.{◌≡◌, refl, sym, ap, ◌∙◌}
 use mathlib.Core.List.{List}
 use Prim.Native.Nat.{ℕ}
 use native.Mathlib.Omega.{arith}
-use Rattle.bitmap.specs.declared.answers.Taken.{Taken}
-use Rattle.bitmap.specs.declared.answers.Taken.TheVariants as T
-use Rattle.bitmap.specs.declared.answers.Changed.{Changed}
-use Rattle.bitmap.specs.declared.answers.Changed.TheVariants as C
-use Rattle.bitmap.specs.declared.answers.Told.{Told}
-use Rattle.bitmap.specs.declared.answers.Told.TheVariants as Y
-use Rattle.bitmap.specs.Answer.{number, taken, changed, told}
+use Rattle.std.specs.Prelude.{Result, Ok, Err, Bool, true, false}
+use Rattle.bitmap.specs.declared.refusal.Refusal.{Refusal}
+use Rattle.words.specs.Bits.{digit}
+use Rattle.bitmap.specs.Answer.{number, said, taken, changed, told}
 use Rattle.bitmap.proofs.Numbered.{number-one, apart}
 
-pub taken-one : (r q : Taken) → taken r ≡ taken q → r ≡ q
-taken-one (T.At p) (T.At p') e = cc
-taken-one (T.At p) (T.No n) e = absurd (apart p (number n) e)
-taken-one (T.No n) (T.At p) e = absurd (apart p (number n) (sym e))
-taken-one (T.No n) (T.No n') e = ap T.No (number-one n n' e)
+-- where no two values count as the same
+said-one : {A : Type 0} (f : A → ℕ) → ((a b : A) → f a ≡ f b → a ≡ b) → (r q : Result A Refusal) → said f r ≡ said f q → r ≡ q
+said-one f one (Ok a) (Ok b) e = ap Ok (one a b cc)
+said-one f one (Ok a) (Err n) e = absurd (apart (f a) (number n) e)
+said-one f one (Err n) (Ok b) e = absurd (apart (f b) (number n) (sym e))
+said-one f one (Err n) (Err m) e = ap Err (number-one n m e)
 
-pub changed-one : (r q : Changed) → changed r ≡ changed q → r ≡ q
-changed-one C.Done C.Done e = refl
-changed-one C.Done (C.No n) e = absurd (apart 0 (number n) e)
-changed-one (C.No n) C.Done e = absurd (apart 0 (number n) (sym e))
-changed-one (C.No n) (C.No n') e = ap C.No (number-one n n' e)
+pub taken-one : (r q : Result ℕ Refusal) → taken r ≡ taken q → r ≡ q
+taken-one = said-one (λ p. p) (λ a b e. e)
 
-pub told-one : (r q : Told) → told r ≡ told q → r ≡ q
-told-one Y.Yes Y.Yes e = refl
-told-one Y.Yes Y.Not e = let z : ◌≡◌ {A = ℕ} 1 0 = cc in absurd (omega arith)
-told-one Y.Yes (Y.No n) e = absurd (apart 1 (number n) e)
-told-one Y.Not Y.Yes e = let z : ◌≡◌ {A = ℕ} 0 1 = cc in absurd (omega arith)
-told-one Y.Not Y.Not e = refl
-told-one Y.Not (Y.No n) e = absurd (apart 0 (number n) e)
-told-one (Y.No n) Y.Yes e = absurd (apart 1 (number n) (sym e))
-told-one (Y.No n) Y.Not e = absurd (apart 0 (number n) (sym e))
-told-one (Y.No n) (Y.No n') e = ap Y.No (number-one n n' e)
+pub changed-one : (r q : Result Unit Refusal) → changed r ≡ changed q → r ≡ q
+changed-one = said-one (λ _. 0) (λ a b e. refl)
+
+digit-one : (a b : Bool) → digit a ≡ digit b → a ≡ b
+digit-one true true e = refl
+digit-one true false e = absurd (omega arith)
+digit-one false true e = absurd (omega arith)
+digit-one false false e = refl
+
+pub told-one : (r q : Result Bool Refusal) → told r ≡ told q → r ≡ q
+told-one = said-one digit digit-one
 
 -- one answer, of which `say` tells everything, and one last value, which stands in the last values as `last` says
 pub once : {A B C : Type 0} (say : A → B) → ((r q : A) → say r ≡ say q → r ≡ q) → {r₁ r₂ : A} {x : B} {l₁ l₂ l : List ℕ} (last : List ℕ → C)

@@ -1,13 +1,8 @@
 -- What documents 01 and 02 say of each case of each answer: its numbers and values. Definitions only.
-use Rattle.std.specs.Prelude.{ℕ, Bool, true, false, ◌||◌, List, [], ◌∷◌, eqb}
-use Rattle.bitmap.specs.declared.answers.Refusal.{Refusal}
-use Rattle.bitmap.specs.declared.answers.Refusal.TheVariants.{WordCount, PastEnd, NoSize, Alignment, NoneFree, AlreadyFree, Untrue, BadImage, TooShort, BadLine, NoAllowance, BookFull, NoLease, BadBook, NoHolder, BadRun, Overlap, BlockSize}
-use Rattle.bitmap.specs.declared.answers.Taken.{Taken}
-use Rattle.bitmap.specs.declared.answers.Taken.TheVariants as T
-use Rattle.bitmap.specs.declared.answers.Changed.{Changed}
-use Rattle.bitmap.specs.declared.answers.Changed.TheVariants as C
-use Rattle.bitmap.specs.declared.answers.Told.{Told}
-use Rattle.bitmap.specs.declared.answers.Told.TheVariants as Y
+use Rattle.std.specs.Prelude.{ℕ, Bool, true, false, ◌||◌, List, [], ◌∷◌, eqb, Result, Ok, Err}
+use Rattle.bitmap.specs.declared.refusal.Refusal.{Refusal}
+use Rattle.bitmap.specs.declared.refusal.Refusal.TheVariants.{WordCount, PastEnd, NoSize, Alignment, NoneFree, AlreadyFree, Untrue, BadImage, TooShort, BadLine, NoAllowance, BookFull, NoLease, BadBook, NoHolder, BadRun, Overlap, BlockSize}
+pub use Rattle.words.specs.Bits.{digit}
 
 -- what a call says: a value, or a refusal's number
 pub data Said : Type 0 where
@@ -35,21 +30,22 @@ number BadRun = 16
 number Overlap = 17
 number BlockSize = 18
 
+-- an answer: what a value counts as, or the number of the refusal
+abbrev pub said : {A : Type 0} → (A → ℕ) → Result A Refusal → Said
+said f (Ok v) = given (f v)
+said f (Err r) = refused (number r)
+
 -- a take or a look-up gives a position
-abbrev pub taken : Taken → Said
-taken (T.At p) = given p
-taken (T.No r) = refused (number r)
+abbrev pub taken : Result ℕ Refusal → Said
+taken = said (λ p. p)
 
 -- a change gives nothing, which is 0
-abbrev pub changed : Changed → Said
-changed C.Done = given 0
-changed (C.No r) = refused (number r)
+abbrev pub changed : Result Unit Refusal → Said
+changed = said (λ _. 0)
 
 -- a test gives 1 for yes and 0 for not
-abbrev pub told : Told → Said
-told Y.Yes = given 1
-told Y.Not = given 0
-told (Y.No r) = refused (number r)
+abbrev pub told : Result Bool Refusal → Said
+told = said digit
 
 -- refusal n where the test holds, and the rest where it does not
 abbrev pub refuse : ℕ → Bool → Said → Said

@@ -1,6 +1,6 @@
 -- What each public call says of a map and what it makes of the map's words, for every number; and the same of a lent store of any
 -- length, whose word count decides the level. Definitions only.
-use Rattle.std.specs.Prelude.{ℕ, ◌+◌, Bool, cond, not, ◌||◌, List, eqb, leb, ltb, length}
+use Rattle.std.specs.Prelude.{ℕ, ◌+◌, Bool, cond, not, ◌||◌, List, eqb, leb, ltb, length, Option, Some, None}
 use Rattle.words.specs.declared.kind.Change.{Change}
 use Rattle.words.specs.declared.kind.Change.TheVariants.{Insert, Remove}
 use Rattle.words.specs.Bits.{digit}
@@ -11,8 +11,6 @@ use Rattle.words.specs.Run.{next_in, misfit, aligned, run?, run_in}
 use Rattle.change.specs.Change.{change}
 use Rattle.change.specs.Single.{single}
 use Rattle.change.specs.GiveBack.{first_leaf, give_back}
-use Rattle.bitmap.specs.declared.base.Base.{Base}
-use Rattle.bitmap.specs.declared.base.Base.TheVariants.{Any, At}
 use Rattle.bitmap.specs.Answer.{Said, given, refused, refuse}
 
 -- ---- a lent store
@@ -41,21 +39,21 @@ alloc_after k s = settle (alloc_says k s) s (λ p. change Remove k s p (p + 1))
 -- ---- alloc_contiguous
 
 -- 2^align is no alignment of n positions, or the given base is no multiple of it
-abbrev pub misplaced : Base → ℕ → ℕ → Bool
-misplaced Any align n = misfit n align
-misplaced (At b) align n = misfit n align || not (aligned align b)
+abbrev pub misplaced : Option ℕ → ℕ → ℕ → Bool
+misplaced None align n = misfit n align
+misplaced (Some b) align n = misfit n align || not (aligned align b)
 
 -- where a run is found that is not empty
-abbrev pub found_run : Base → ℕ → ℕ → ℕ → List ℕ → Said
-found_run Any size align k s =
+abbrev pub found_run : Option ℕ → ℕ → ℕ → ℕ → List ℕ → Said
+found_run None size align k s =
     refuse 5 (leb (cap k) (run_in (free? k s) (cap k) size align)) (given (run_in (free? k s) (cap k) size align))
-found_run (At b) size align k s =
+found_run (Some b) size align k s =
     refuse 2 (ltb (cap k) (b + size)) (refuse 5 (not (run? (free? k s) (cap k) size align b)) (given b))
 
-abbrev pub run_says : Base → ℕ → ℕ → ℕ → List ℕ → Said
+abbrev pub run_says : Option ℕ → ℕ → ℕ → ℕ → List ℕ → Said
 run_says base size align k s = refuse 4 (misplaced base align (cap k)) (refuse 3 (eqb size 0) (found_run base size align k s))
 
-abbrev pub run_after : Base → ℕ → ℕ → ℕ → List ℕ → List ℕ
+abbrev pub run_after : Option ℕ → ℕ → ℕ → ℕ → List ℕ → List ℕ
 run_after base size align k s = settle (run_says base size align k s) s (λ b. change Remove k s b (b + size))
 
 -- ---- next

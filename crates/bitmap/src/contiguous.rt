@@ -2,14 +2,12 @@
 ghost use Rattle.std.specs.Prelude.{◌≡◌, ◌≤◌, ◌<◌, leb, length};
 ghost use Rattle.words.specs.Sizes.{words, cap};
 ghost use Rattle.change.specs.GiveBack.{first_leaf};
-ghost use Rattle.bitmap.specs.declared.base.Base.TheVariants.{Any};
 ghost use Rattle.bitmap.specs.Answer.{taken, changed};
 ghost use Rattle.bitmap.specs.Calls.{misplaced, run_says, run_after, give_run_says};
 ghost use Rattle.bitmap.specs.Ways.{given_back, given_after};
 
-use crate::answers::{Changed, Refusal, Taken};
-use crate::base::Base;
 use crate::map;
+use crate::refusal::Refusal;
 use crate::way::Way;
 use change::{give_back, range};
 use look::{contiguous, leaf, stretch};
@@ -17,63 +15,64 @@ use words::kind::Change;
 use words::{align, sizes};
 
 // Whether the alignment is none of a map of cap positions, or not that of the base.
-fn misplaced(cap: usize, base: Base, align_log2: usize) -> bool
+fn misplaced(cap: usize, base: Option<usize>, align_log2: usize) -> bool
     ensures { result ≡ misplaced base align_log2 cap }
 {
     match base {
-        Base::Any => align::misfits(cap, align_log2),
-        Base::At(b) => align::misfits(cap, align_log2) || !align::is_aligned_log2(b, align_log2),
+        None => align::misfits(cap, align_log2),
+        Some(b) => align::misfits(cap, align_log2) || !align::is_aligned_log2(b, align_log2),
     }
 }
 
 // The run that a take gets, or the refusal.
-fn find_run(k: usize, s: &[u16], base: Base, size: usize, align_log2: usize) -> Taken
+fn find_run(
+    k: usize,
+    s: &[u16],
+    base: Option<usize>,
+    size: usize,
+    align_log2: usize,
+) -> Result<usize, Refusal>
     requires { (k ≤ 6) × (length s.now ≡ words k) }
     ensures { taken result ≡ run_says base size align_log2 k s.now }
 {
     let cap = sizes::cap_of(k);
     if misplaced(cap, base, align_log2) {
-        return Taken::No(Refusal::Alignment);
+        return Err(Refusal::Alignment);
     }
     if size == 0 { // an empty run would fit everywhere
-        return Taken::No(Refusal::NoSize);
+        return Err(Refusal::NoSize);
     }
     match base {
-        Base::Any => {
-            let b = contiguous::find_contiguous(k, s, size, align_log2);
-            if b < cap {
-                Taken::At(b)
-            } else {
-                Taken::No(Refusal::NoneFree)
-            }
-        }
-        Base::At(b) => {
+        None => contiguous::find_contiguous(k, s, size, align_log2).ok_or(Refusal::NoneFree),
+        Some(b) => {
             let to = align::run_end(b, size);
             if cap < to {
-                return Taken::No(Refusal::PastEnd);
+                return Err(Refusal::PastEnd);
             }
             if stretch::end_by_level(k, s, b, to) == to {
-                Taken::At(b)
+                Ok(b)
             } else {
-                Taken::No(Refusal::NoneFree)
+                Err(Refusal::NoneFree)
             }
         }
     }
 }
 
 // Takes that run.
-fn alloc_run(k: usize, s: &mut [u16], base: Base, size: usize, align_log2: usize) -> Taken
+fn alloc_run(
+    k: usize,
+    s: &mut [u16],
+    base: Option<usize>,
+    size: usize,
+    align_log2: usize,
+) -> Result<usize, Refusal>
     requires { (k ≤ 6) × (length s.old ≡ words k) }
     ensures result_value { taken result ≡ run_says base size align_log2 k s.old }
     ensures s_after { s.new ≡ run_after base size align_log2 k s.old }
 {
-    match find_run(k, s, base, size, align_log2) {
-        Taken::At(b) => {
-            range::for_range(Change::Remove, k, s, b, b + size);
-            Taken::At(b)
-        }
-        Taken::No(r) => Taken::No(r),
-    }
+    let b = find_run(k, s, base, size, align_log2)?;
+    range::for_range(Change::Remove, k, s, b, b + size);
+    Ok(b)
 }
 
 // Takes a run: the lowest that is aligned, or the one at the given base. A run of one anywhere is a single take, unless the map's summary
@@ -81,21 +80,17 @@ fn alloc_run(k: usize, s: &mut [u16], base: Base, size: usize, align_log2: usize
 pub fn alloc_contiguous(
     k: usize,
     s: &mut [u16],
-    base: Base,
+    base: Option<usize>,
     size: usize,
     align_log2: usize,
-) -> Taken
+) -> Result<usize, Refusal>
     requires { (k ≤ 6) × (length s.old ≡ words k) }
     ensures result_value { taken result ≡ run_says base size align_log2 k s.old }
     ensures s_after { s.new ≡ run_after base size align_log2 k s.old }
 {
-    if let Base::Any = base {
-        if size == 1 {
-            if align_log2 == 0 {
-                if let Taken::At(p) = map::alloc_one(k, s) {
-                    return Taken::At(p);
-                }
-            }
+    if base.is_none() && size == 1 && align_log2 == 0 {
+        if let Ok(p) = map::alloc_one(k, s) {
+            return Ok(p);
         }
     }
     alloc_run(k, s, base, size, align_log2)
@@ -120,17 +115,21 @@ fn give_back(way: Way, k: usize, s: &mut [u16], a: usize, b: usize) -> bool
 }
 
 // Gives size positions from base on back, one way or the other.
-pub fn dealloc_contiguous(way: Way, k: usize, s: &mut [u16], base: usize, size: usize) -> Changed
+pub fn dealloc_contiguous(
+    way: Way,
+    k: usize,
+    s: &mut [u16],
+    base: usize,
+    size: usize,
+) -> Result<(), Refusal>
     requires { (k ≤ 6) × (length s.old ≡ words k) }
     ensures result_value { changed result ≡ give_run_says base size k s.old }
     ensures s_after { s.new ≡ given_after way base size k s.old }
 {
     let end = align::run_end(base, size);
-    let fits = map::ranged(k, base, end);
-    if let Changed::Done = fits {
-        if !give_back(way, k, s, base, end) {
-            return Changed::No(Refusal::AlreadyFree);
-        }
+    map::ranged(k, base, end)?;
+    if !give_back(way, k, s, base, end) {
+        return Err(Refusal::AlreadyFree);
     }
-    fits
+    Ok(())
 }

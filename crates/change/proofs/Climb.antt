@@ -106,7 +106,3 @@ module _ {p j rest size : ℕ} (h : Rising p j rest size) where
   -- the child on the way
   pub rise-digit : rest % 16 ≡ p / cap j % 16
   rise-digit = ap (λ (n : ℕ). n % 16) h.rest-is
-
--- what had climbed to at₀ where the loop begins has climbed to `at` now
-abbrev pub Climbs : Change → ℕ → ℕ → List ℕ → ℕ → ℕ → List ℕ → ℕ → ℕ → Type 0
-Climbs c k p s₀ at₀ j₀ s at j = (t : List ℕ) → Climbed c k t p at₀ j₀ s₀ → Climbed c k t p at j s

@@ -1,8 +1,9 @@
 -- What a single give-back finds: a position that is free already stays, and a word that turns becomes not empty. Assumes nothing.
 use mathlib.Core.Path.{◌≡◌, refl, sym, ap, ap₂, ◌∙◌}
-use mathlib.Core.Bool.{Bool, true, false, cond, true≢false}
+use mathlib.Core.Bool.{true, false, cond, true≢false}
 use mathlib.Core.Logic.{⊎_elim}
 use mathlib.Core.List.{List}
+use Rattle.std.proofs.Common.{Option, Some, None}
 use Prim.Native.Nat.{ℕ, zero, suc, ◌/◌, ◌%◌, ◌<◌}
 use native.Mathlib.Nat.{mod-lt}
 use native.Mathlib.Omega.{arith}
@@ -12,15 +13,13 @@ use lib.Dec.{eqb}
 use borrow.Author.Tests.{eq-eqb}
 use Rattle.words.specs.declared.kind.Change.TheVariants.{Insert}
 use Rattle.words.specs.declared.turn.Turn.{Turn}
-use Rattle.words.specs.declared.turn.Turn.TheVariants as T
+use Rattle.words.specs.declared.turn.Turn.TheVariants.{Stayed, BecameNotEmpty}
 use Rattle.words.specs.Bits.{bit, word_of, some}
 use Rattle.words.specs.Turn.{turn}
 use Rattle.words.specs.Sizes.{words, cap}
 use Rattle.words.specs.Tree.{Fits, own, child, node, leaf?}
-use Rattle.change.specs.declared.position.Given.{Given}
-use Rattle.change.specs.declared.position.Given.TheVariants.{AlreadyFree, Stayed, BecameNotEmpty}
-use Rattle.change.specs.Single.{turns, single, by_turn, gives}
-use Rattle.words.proofs.Tests.{sort}
+use Rattle.change.specs.Single.{turns, single, gives}
+use Rattle.std.proofs.lemmas.Bool.{cases_Bool}
 use Rattle.words.proofs.Bits.{bit-pack, stored-same}
 use Rattle.words.proofs.Levels.{cap-pos}
 use Rattle.words.proofs.Rows.{upd, upd-kept, node-ext, own-node, split-node, length-child}
@@ -62,68 +61,53 @@ given-some (suc k) s p len fits l t =
     let word : own (single Insert (suc k) s p) ≡ word_of (λ j. cond (eqb j i) true (bit (own s) j)) = is ∙ rw (e, some-new) in
     ap some word ∙ some-stored (own s) i m)
     (λ e. absurd (true≢false (sym t ∙ same-turns s (single Insert (suc k) s p) (is ∙ rw e))))
-    (sort (turns (old Insert k s p) (new Insert k s p)))
+    (cases_Bool (turns (old Insert k s p) (new Insert k s p)))
 
 -- ---- what is found says whether the position was free
 
-abbrev free-already? : Given → Bool
-free-already? AlreadyFree = true
-free-already? Stayed = false
-free-already? BecameNotEmpty = false
-
-not-already : (t : Turn) → free-already? (by_turn t) ≡ false
-not-already T.Stayed = refl
-not-already T.BecameEmpty = refl
-not-already T.BecameNotEmpty = refl
-
 module _ (k : ℕ) (s : List ℕ) (p : ℕ) where
-  pub gives-free : gives k s p ≡ AlreadyFree → leaf? k s p ≡ true
+  pub gives-free : gives k s p ≡ None → leaf? k s p ≡ true
   unfolding gives
   gives-free e = ⊎_elim
       (λ free. free)
-      (λ taken. absurd (true≢false (sym (ap free-already? (rw taken at e)) ∙ not-already (turn (own s) (own (single Insert k s p))))))
-      (sort (leaf? k s p))
+      (λ (taken : leaf? k s p ≡ false). let found : Some (turn (own s) (own (single Insert k s p))) ≡ None = rw taken at e in cc)
+      (cases_Bool (leaf? k s p))
 
-  pub gives-taken : (gives k s p ≡ AlreadyFree → ⊥) → leaf? k s p ≡ false
+  pub gives-taken : (gives k s p ≡ None → ⊥) → leaf? k s p ≡ false
   unfolding gives
   gives-taken ne = ⊎_elim
       (λ (free : leaf? k s p ≡ true). absurd (ne (rw free)))
       (λ taken. taken)
-      (sort (leaf? k s p))
-
--- it became not empty
-abbrev became? : Given → Bool
-became? AlreadyFree = false
-became? Stayed = false
-became? BecameNotEmpty = true
+      (cases_Bool (leaf? k s p))
 
 -- ---- what is found, by what is found in the child that has the position
 
 module _ (k : ℕ) (s : List ℕ) (p : ℕ) (len : length s ≡ words k) (fits : Fits s) (l : p < cap k) where
   -- the word did not turn, unless it became not empty
-  pub gives-still : (gives k s p ≡ BecameNotEmpty → ⊥) → turns s (single Insert k s p) ≡ false
+  pub gives-still : (gives k s p ≡ Some BecameNotEmpty → ⊥) → turns s (single Insert k s p) ≡ false
   unfolding gives
   gives-still n = ⊎_elim
       (λ free. same-turns s (single Insert k s p) (ap own (single-free k s p len fits l free)))
       (λ (taken : leaf? k s p ≡ false). ⊎_elim
       (λ (t : turns s (single Insert k s p) ≡ true). absurd (n (rw taken (became t))))
       (λ t. t)
-      (sort (turns s (single Insert k s p))))
-      (sort (leaf? k s p))
+      (cases_Bool (turns s (single Insert k s p))))
+      (cases_Bool (leaf? k s p))
     where
-      became : turns s (single Insert k s p) ≡ true → by_turn (turn (own s) (own (single Insert k s p))) ≡ BecameNotEmpty
-      became t = ap by_turn (turn-went (own s) (own (single Insert k s p)) t (given-some k s p len fits l t))
+      became : turns s (single Insert k s p) ≡ true → Some (turn (own s) (own (single Insert k s p))) ≡ Some BecameNotEmpty
+      became t = ap Some (turn-went (own s) (own (single Insert k s p)) t (given-some k s p len fits l t))
 
   -- and where it did the position was not free
-  pub gives-became : gives k s p ≡ BecameNotEmpty → (leaf? k s p ≡ false) × (turns s (single Insert k s p) ≡ true)
+  pub gives-became : gives k s p ≡ Some BecameNotEmpty → (leaf? k s p ≡ false) × (turns s (single Insert k s p) ≡ true)
   unfolding gives
   gives-became e = ⊎_elim
-      (λ free. absurd (true≢false (sym (ap became? (rw free at e)))))
-      (λ taken. ⊎_elim
+      (λ (free : leaf? k s p ≡ true). let found : ◌≡◌ {A = Option Turn} None (Some BecameNotEmpty) = rw free at e in cc)
+      (λ (taken : leaf? k s p ≡ false). ⊎_elim
       (λ t. (taken, t))
-      (λ t. absurd (true≢false (sym (ap became? (rw (taken, still (turn (own s) (own (single Insert k s p))) t) at e)))))
-      (sort (turns s (single Insert k s p))))
-      (sort (leaf? k s p))
+      (λ (t : turns s (single Insert k s p) ≡ false).
+      let found : Some Stayed ≡ Some BecameNotEmpty = rw (taken, still (turn (own s) (own (single Insert k s p))) t) at e in cc)
+      (cases_Bool (turns s (single Insert k s p))))
+      (cases_Bool (leaf? k s p))
 
 -- ---- a leaf word s, where v is the word with the position's bit set
 
@@ -137,24 +121,24 @@ module _ (s : List ℕ) (p : ℕ) {v : ℕ} (len : length s ≡ words 0) (fits :
   own-stored = ap own (sym stored) ∙ get_or-set_same s 0 v 0 (rw len (omega arith))
 
   -- the word would stay the same
-  pub leaf-free : v ≡ own s → (AlreadyFree ≡ gives 0 s p) × (s ≡ single Insert 0 s p)
+  pub leaf-free : v ≡ own s → (None ≡ gives 0 s p) × (s ≡ single Insert 0 s p)
   unfolding gives leaf? cap
   leaf-free same =
       let set-bit : bit (own s) p ≡ true = ap (λ (w : ℕ). bit w p) (sym same ∙ e) ∙ bit-pack 16 (λ m. cond (eqb m p) true (bit (own s) m)) p l ∙ rw (eq-eqb p p refl) in
       (rw set-bit, sym (set-get_or s 0 0) ∙ ap (set s 0) (sym same) ∙ stored)
 
   -- or not
-  pub leaf-taken : (v ≡ own s → ⊥) → (by_turn (turn (own s) v) ≡ gives 0 s p) × (set s 0 v ≡ single Insert 0 s p)
+  pub leaf-taken : (v ≡ own s → ⊥) → (Some (turn (own s) v) ≡ gives 0 s p) × (set s 0 v ≡ single Insert 0 s p)
   unfolding gives leaf?
   leaf-taken ne = ⊎_elim
       (λ (b : bit (own s) p ≡ true). absurd (ne (e ∙ stored-same (own s) p true (fits 0) b)))
       (λ (b : bit (own s) p ≡ false). (rw (b, own-stored), stored))
-      (sort (bit (own s) p))
+      (cases_Bool (bit (own s) p))
 
 -- ---- the child that has the position, lent and come back
 
 -- child i of the map s has the position p, which is q in the child; the child has n words, which came back as ys with the answer r
-pub record Returned (k : ℕ) (s : List ℕ) (p n i q : ℕ) (ys : List ℕ) (r : Given) : Type 0 where
+pub record Returned (k : ℕ) (s : List ℕ) (p n i q : ℕ) (ys : List ℕ) (r : Option Turn) : Type 0 where
   pub len : length s ≡ words (suc k)
   pub fits : Fits s
   pub inside : p < cap (suc k)
@@ -164,7 +148,7 @@ pub record Returned (k : ℕ) (s : List ℕ) (p n i q : ℕ) (ys : List ℕ) (r 
   pub found : r ≡ gives k (lent n s i) q
   pub words_are : ys ≡ single Insert k (lent n s i) q
 
-module _ {k : ℕ} {s : List ℕ} {p n i q : ℕ} {ys : List ℕ} {r : Given} (h : Returned k s p n i q ys r) where
+module _ {k : ℕ} {s : List ℕ} {p n i q : ℕ} {ys : List ℕ} {r : Option Turn} (h : Returned k s p n i q ys r) where
   below : i < 16
   below = rw h.at (position-child {j = k} p refl h.inside)
 
@@ -190,7 +174,7 @@ module _ {k : ℕ} {s : List ℕ} {p n i q : ℕ} {ys : List ℕ} {r : Given} (h
   own-kept = ap own (back-node k s i n h.size ys h.len below) ∙ own-node _ _
 
   -- where the child did not turn, its answer is the map's
-  pub node-stayed : (r ≡ BecameNotEmpty → ⊥) → (r ≡ gives (suc k) s p) × (back n s i ys ≡ single Insert (suc k) s p)
+  pub node-stayed : (r ≡ Some BecameNotEmpty → ⊥) → (r ≡ gives (suc k) s p) × (back n s i ys ≡ single Insert (suc k) s p)
   unfolding gives
   node-stayed ne =
       let found : r ≡ gives k (old Insert k s p) (p % cap k) = h.found ∙ ap₂ (gives k) part h.rest in
@@ -201,8 +185,8 @@ module _ {k : ℕ} {s : List ℕ} {p n i q : ℕ} {ys : List ℕ} {r : Given} (h
       )
 
   -- where it did, its bit is set in the own word
-  pub node-turned : {zs : List ℕ} → r ≡ BecameNotEmpty → zs ≡ set (back n s i ys) 0 (word_of (λ m. cond (eqb m i) true (bit (own (back n s i ys)) m)))
-      → (by_turn (turn (own (back n s i ys)) (own zs)) ≡ gives (suc k) s p) × (zs ≡ single Insert (suc k) s p)
+  pub node-turned : {zs : List ℕ} → r ≡ Some BecameNotEmpty → zs ≡ set (back n s i ys) 0 (word_of (λ m. cond (eqb m i) true (bit (own (back n s i ys)) m)))
+      → (Some (turn (own (back n s i ys)) (own zs)) ≡ gives (suc k) s p) × (zs ≡ single Insert (suc k) s p)
   unfolding gives
   node-turned {zs} e ez =
       let m = mod-lt p (cap-pos k) in

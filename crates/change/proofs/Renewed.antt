@@ -9,7 +9,7 @@ use Rattle.words.specs.Bits.{bit, some}
 use Rattle.words.specs.Sizes.{words}
 use Rattle.words.specs.Tree.{own, child}
 use Rattle.change.specs.Renew.{replaced, marked, renew}
-use Rattle.words.proofs.Tests.{sort}
+use Rattle.std.proofs.lemmas.Bool.{cases_Bool}
 use Rattle.words.proofs.Bits.{bit-pack, pack-ext, pack-lt}
 use Rattle.words.proofs.Rows.{node-ext, own-node, length-node, child-node, length-child}
 
@@ -67,7 +67,7 @@ renew-marked k at mark new s h = node-ext (marked-ext mark mark _ _ (own s) (λ 
     kid i l = ⊎_elim
         (λ (t : mark i ≡ true). replaced-in k mark (replaced k at new s) s i t)
         (λ (t : mark i ≡ false). replaced-out k mark (replaced k at new s) s i t ∙ sym (replaced-out k at new s i (h i l t)))
-        (sort (mark i))
+        (cases_Bool (mark i))
 
 -- the bits of a renewed map
 pub bit-renew : (k : ℕ) (at mark : ℕ → Bool) (new : ℕ → List ℕ) (s : List ℕ) (i : ℕ) → i < 16

@@ -1,6 +1,6 @@
 -- The laws of a single take or give-back: how it goes by the child that has the position. Assumes nothing.
 use mathlib.Core.Path.{◌≡◌, refl, sym, ap, ◌∙◌}
-use mathlib.Core.Bool.{Bool, true, false, cond, ◌&&◌}
+use mathlib.Core.Bool.{Bool, true, false, cond, ◌&&◌, and-true, and-false}
 use mathlib.Core.List.{List}
 use Prim.Native.Nat.{ℕ, zero, suc, ◌/◌, ◌%◌, ◌^◌, ◌<◌}
 use native.Mathlib.Decide.{ℕ_discrete}
@@ -14,7 +14,6 @@ use Rattle.words.specs.Tree.{own, child, node}
 use Rattle.change.specs.Renew.{replaced, marked, renew}
 use Rattle.change.specs.Change.{change}
 use Rattle.change.specs.Single.{turns, single}
-use Rattle.words.proofs.Tests.{and-true, and-false}
 use Rattle.words.proofs.Bits.{pack-ext, pack-bit}
 use Rattle.words.proofs.Rows.{upd, node-ext, own-node, set-node, length-child}
 use Rattle.words.proofs.Parts.{back, back-node}

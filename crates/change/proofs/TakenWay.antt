@@ -10,7 +10,7 @@ use native.Mathlib.Decide.{dec_lt}
 use native.Mathlib.Omega.{arith}
 use lib.Arith.{digits_div, digits_mod}
 use lib.ListN.{length, set, get_or}
-use lib.Seq.{set-get_or}
+use lib.Seq.{set-get_or, get_or-set_same}
 use lib.Dec.{eqb}
 use borrow.Author.Tests.{lt-ltb, le-ltb, eqb-false, not-true}
 use Rattle.words.specs.declared.kind.Change.TheVariants.{Remove}
@@ -23,14 +23,14 @@ use Rattle.words.specs.Sizes.{words, cap}
 use Rattle.words.specs.Tree.{own, child}
 use Rattle.change.specs.Change.{change}
 use Rattle.words.specs.Take.{lowest}
-use Rattle.words.proofs.Tests.{sort}
+use Rattle.std.proofs.lemmas.Bool.{cases_Bool}
 use Rattle.words.proofs.Search.{first-is}
 use Rattle.words.proofs.Bits.{some-bit, stored-same}
-use Rattle.words.proofs.Turns.{turn-is, turn-told}
-use Rattle.words.proofs.Levels.{cap-pos, cap-node}
+use Rattle.words.proofs.Turns.{turn-is, word-told, turn-told}
+use Rattle.words.proofs.Levels.{words-small, cap-pos, cap-node}
 use Rattle.words.specs.Place.{on_way}
 use Rattle.words.proofs.OnWay.{descend, rest-rest, digit-child, digit-lt, below, on-word, below-own, below-child}
-use Rattle.change.proofs.Climb.{Climbed, climb-now, climb-above, climb}
+use Rattle.change.proofs.Climb.{Climbed, climb-now, climb-fits, climb-above, climb, Rising, rise, rise-digit}
 use Rattle.change.proofs.Stages.{new_below, stage, stage-own, stage-now, stage-above, stage-up}
 
 -- ---- the lowest bits on the way
@@ -112,28 +112,53 @@ left-empty : {t : Turn} (w : ℕ) → t ≡ left w → t ≡ BecameEmpty → som
 left-empty w e b = ⊎_elim
     (λ (s : some w ≡ true). let stayed : left w ≡ Stayed = rw s in absurd (true≢false (sym (ap goes (sym stayed ∙ sym e ∙ b)))))
     (λ s. s)
-    (sort (some w))
+    (cases_Bool (some w))
 
 left-some : {t : Turn} (w : ℕ) → t ≡ left w → (t ≡ BecameEmpty → ⊥) → some w ≡ true
 left-some w e n = ⊎_elim
     (λ s. s)
     (λ (s : some w ≡ false). absurd (n (e ∙ rw s)))
-    (sort (some w))
+    (cases_Bool (some w))
 
-module _ {k : ℕ} {s₀ : List ℕ} {p at j : ℕ} {s : List ℕ} (h : Climbed Remove k s₀ p at j s) {t : Turn} (et : t ≡ left (get_or s at 0)) where
+-- a take of p on its way up: the words s are those of stage j, and t is how the word at `at`, which was stored last, went
+pub record Taking (k : ℕ) (s₀ : List ℕ) (p at j rest size : ℕ) (t : Turn) (s : List ℕ) : Type 0 where
+  pub rising : Rising p j rest size
+  pub turned : t ≡ left (get_or s at 0)
+  pub climbed : Climbed Remove k s₀ p at j s
+
+module _ {k : ℕ} {s₀ : List ℕ} {p at j rest size : ℕ} {t : Turn} {s : List ℕ} (i : Taking k s₀ p at j rest size t s) where
   -- it ends at the first word that did not become empty
   pub take-end : lowest k s₀ ≡ p → ((i : ℕ) → get_or s₀ i 0 < 2 ^ 16) → (t ≡ BecameEmpty → ⊥) → s ≡ change Remove k s₀ p (p + 1)
   take-end is fits ne =
-      h.words_are ∙ stage-whole k s₀ p h.len h.inside is fits j h.level (ap some (sym (climb-now h)) ∙ left-some (get_or s at 0) et ne)
+      let h = i.climbed in
+      h.words_are ∙ stage-whole k s₀ p h.len h.inside is fits j h.level (ap some (sym (climb-now h)) ∙ left-some (get_or s at 0) i.turned ne)
 
-  -- where that word became empty the lowest bit of the word above is cleared, which is the child's
-  module _ (l : j < k) {i n : ℕ} (ei : i ≡ p / cap j % 16) (en : n ≡ words j) where
-    pub take-low : lowest k s₀ ≡ p → lowest_bit (get_or s (at - 1 - i * n) 0) ≡ i
-    take-low is = ap lowest_bit (climb-above h l ei en) ∙ low-above k s₀ p h.len h.inside is j l ∙ sym ei
+  -- from a word that is not the map's own it goes to the one above
+  module _ (up : j < k) where
+    -- no number wraps, and that word is one of the map's
+    pub take-fits : (1 + rest % 16 * size ≤ at) × (at - 1 - rest % 16 * size < length s) × (at ≤ 17895697) × (size ≤ 17895697)
+    take-fits =
+        let f = climb-fits i.climbed up (rise-digit i.rising) i.rising.size_is in
+        (f.0, f.1, f.2, rw i.rising.size_is (words-small j (omega (arith, i.climbed.small))))
 
-    pub take-turn : (v : ℕ) → t ≡ BecameEmpty → lowest_bit (get_or s (at - 1 - i * n) 0) ≡ i
-        → v ≡ word_of (λ m. cond (eqb m (lowest_bit (get_or s (at - 1 - i * n) 0))) false (bit (get_or s (at - 1 - i * n) 0) m))
-        → Climbed Remove k s₀ p (at - 1 - i * n) (j + 1) (set s (at - 1 - i * n) v)
-    take-turn v z el ev = climb h l ei en false v
-        (sym (ap some (sym (climb-now h)) ∙ left-empty (get_or s at 0) et z))
-        (rw el at ev)
+    -- its lowest bit is the child's
+    pub take-low : lowest k s₀ ≡ p → lowest_bit (get_or s (at - 1 - rest % 16 * size) 0) ≡ rest % 16
+    take-low is =
+        let h = i.climbed in
+        let digit = rise-digit i.rising in
+        ap lowest_bit (climb-above h up digit i.rising.size_is) ∙ low-above k s₀ p h.len h.inside is j up ∙ sym digit
+
+    -- where the child became empty that bit is cleared
+    pub take-turn : {r : Turned} → lowest k s₀ ≡ p → t ≡ BecameEmpty → let above = get_or s (at - 1 - rest % 16 * size) 0 in
+        r ≡ turned above (word_of (λ m. cond (eqb m (lowest_bit above)) false (bit above m)))
+        → Taking k s₀ p (at - 1 - rest % 16 * size) (j + 1) (rest / 2 ^ 4) (1 + 16 * size) r.turn (set s (at - 1 - rest % 16 * size) r.word)
+    take-turn {r} is z e =
+        let above = get_or s (at - 1 - rest % 16 * size) 0 in
+        let low = take-low is in
+        record {
+          rising = rise i.rising;
+          turned = left-told _ _ e low (omega arith) ∙ ap left (sym (get_or-set_same s (at - 1 - rest % 16 * size) r.word 0 take-fits.1));
+          climbed = climb i.climbed up (rise-digit i.rising) i.rising.size_is false r.word
+              (sym (ap some (sym (climb-now i.climbed)) ∙ left-empty (get_or s at 0) i.turned z))
+              (rw low at (word-told _ _ e));
+        }

@@ -17,7 +17,7 @@ use Rattle.words.specs.Take.{lowest}
 use Rattle.change.specs.Renew.{replaced, marked, renew}
 use Rattle.change.specs.Change.{change}
 use Rattle.change.specs.Single.{turns, single}
-use Rattle.words.proofs.Tests.{sort}
+use Rattle.std.proofs.lemmas.Bool.{cases_Bool}
 use Rattle.words.proofs.Bits.{pack-ext, some-bit}
 use Rattle.words.proofs.Levels.{cap-pos}
 use Rattle.words.proofs.Rows.{node-ext}
@@ -47,7 +47,7 @@ module _ (c : Change) (k : ℕ) (s : List ℕ) (p : ℕ) where
   module _ (says : bit (own s) at ≡ some (own old)) (same : single c k old (p % cap k) ≡ new) where
     -- a bit that is not recomputed is right already
     kept : cond (turns old new) (some (own new)) (bit (own s) at) ≡ some (own new)
-    kept = ⊎_elim (λ (t : turns old new ≡ true). rw t) (λ (t : turns old new ≡ false). rw t (says ∙ still-some (own old) (own new) t)) (sort (turns old new))
+    kept = ⊎_elim (λ (t : turns old new ≡ true). rw t) (λ (t : turns old new ≡ false). rw t (says ∙ still-some (own old) (own new) t)) (cases_Bool (turns old new))
 
     step : single c (suc k) s p ≡ change c (suc k) s p (p + 1)
     unfolding single renew marked replaced

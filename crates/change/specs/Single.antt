@@ -1,15 +1,12 @@
 -- A single take or give-back: the bit of one position changed, and above it no word but where the word below turned. Definitions only.
-use Rattle.std.specs.Prelude.{ℕ, zero, suc, ◌+◌, ◌/◌, ◌%◌, Bool, cond, ◌&&◌, List, [], ◌∷◌, eqb}
+use Rattle.std.specs.Prelude.{ℕ, zero, suc, ◌+◌, ◌/◌, ◌%◌, Bool, cond, ◌&&◌, List, [], ◌∷◌, eqb, Option, Some, None}
 use Rattle.words.specs.declared.kind.Change.{Change}
 use Rattle.words.specs.declared.kind.Change.TheVariants.{Insert}
 use Rattle.words.specs.declared.turn.Turn.{Turn}
-use Rattle.words.specs.declared.turn.Turn.TheVariants as T
 use Rattle.words.specs.Bits.{change_word}
 use Rattle.words.specs.Turn.{turn, goes}
 use Rattle.words.specs.Sizes.{cap}
 use Rattle.words.specs.Tree.{own, child, leaf?}
-use Rattle.change.specs.declared.position.Given.{Given}
-use Rattle.change.specs.declared.position.Given.TheVariants.{AlreadyFree, Stayed, BecameNotEmpty}
 use Rattle.change.specs.Renew.{renew}
 
 -- child i, each child having n positions, has the position p
@@ -28,12 +25,6 @@ single c (suc k) s p =
     (λ i. single c k (child k s i) (p % cap k))
     s
 
--- what a give-back finds where the position was not free: how the own word turned, which never became empty
-abbrev pub by_turn : Turn → Given
-by_turn T.Stayed = Stayed
-by_turn T.BecameEmpty = Stayed
-by_turn T.BecameNotEmpty = BecameNotEmpty
-
--- what a give-back of the position p finds
-unfoldable pub gives : ℕ → List ℕ → ℕ → Given
-gives k s p = cond (leaf? k s p) AlreadyFree (by_turn (turn (own s) (own (single Insert k s p))))
+-- what a give-back of the position p finds: nothing where it was free already, and otherwise how the own word turned
+unfoldable pub gives : ℕ → List ℕ → ℕ → Option Turn
+gives k s p = cond (leaf? k s p) None (Some (turn (own s) (own (single Insert k s p))))

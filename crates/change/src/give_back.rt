@@ -8,22 +8,21 @@ use words::kind::Change;
 use words::{sizes, word};
 
 // Where the range that starts at a starts in child i of level j.
+#[tactic(auto, unfolding(crate::specs::Change::low))]
 pub fn low_of(j: usize, a: usize, i: usize) -> usize
     requires { (j ≤ 5) × (i < 16) }
     ensures { result ≡ low (cap j) a i }
 {
-    let start = sizes::start_of(j, i);
-    if start < a { a - start } else { 0 }
+    a.saturating_sub(sizes::start_of(j, i))
 }
 
 // Where the range that ends at b ends in child i of level j.
+#[tactic(auto, unfolding(crate::specs::Change::high))]
 pub fn high_of(j: usize, b: usize, i: usize) -> usize
     requires { (j ≤ 5) × (i < 16) × (i * cap j ≤ b) }
     ensures { result ≡ high (cap j) b i }
 {
-    let rest = b - sizes::start_of(j, i);
-    let c = sizes::cap_of(j);
-    if rest < c { rest } else { c }
+    sizes::cap_of(j).min(b - sizes::start_of(j, i))
 }
 
 // The crate's run give-back of the positions from a up to b: whether none of them was free.
@@ -63,7 +62,8 @@ pub fn dealloc_contiguous_old(k: usize, s: &mut [u16], a: usize, b: usize) -> bo
     ok
 }
 
-// The same by a table of the levels, so that the compiled code has each level's numbers in it.
+// The same by a table of the levels, so that the compiled code has each level's numbers in it. No closure takes the table's place: the calls
+// go round through it, and what falls from one to the next is the level, a number.
 #[cycle(old_way)]
 pub fn dealloc_contiguous_old_below(k: usize, s: &mut [u16], a: usize, b: usize) -> bool
     requires { (k ≤ 5) × (length s.old ≡ words k) × (a < b) × (b ≤ cap k) }

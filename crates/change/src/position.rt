@@ -9,7 +9,7 @@ ghost use Rattle.words.specs.Tree.{own};
 ghost use Rattle.words.specs.Place.{leaf_place};
 ghost use Rattle.words.specs.Take.{lowest};
 ghost use Rattle.change.specs.Change.{change};
-ghost use Rattle.change.specs.Single.{single, by_turn, gives};
+ghost use Rattle.change.specs.Single.{single, gives};
 
 use words::turn::Turn;
 use words::{sizes, word};
@@ -22,39 +22,26 @@ pub fn take(k: usize, s: &mut [u16], leaf: usize, p: usize)
 {
     let old = s[leaf];
     let new = word::take(old);
-    let w = new.word;
-    s[leaf] = w;
+    s[leaf] = new.word;
     let mut turn = new.turn;
     let mut at = leaf;
     let mut rest = p >> 4;
     let mut size = 1;
-    let mut j = 0;
-    while j < k {
-        match turn {
-            Turn::BecameEmpty => {
-                at = at - 1 - rest % 16 * size;
-                let new = word::take(s[at]);
-                s[at] = new.word;
-                turn = new.turn;
-            }
-            _ => return,
-        }
+    for _ in 0..k {
+        let Turn::BecameEmpty = turn else {
+            return;
+        };
+        at = at - 1 - rest % 16 * size;
+        let new = word::take(s[at]);
+        s[at] = new.word;
+        turn = new.turn;
         rest = rest >> 4;
         size = 1 + 16 * size;
-        j += 1;
     }
 }
 
-// What a give-back finds in a map: the position was free already; or it is free now, and the own word stayed or became not empty.
-#[derive(Clone, Copy)]
-pub enum Given {
-    AlreadyFree,
-    Stayed,
-    BecameNotEmpty,
-}
-
-// Gives the position p back in a map of level k.
-pub fn give(k: usize, s: &mut [u16], p: usize) -> Given
+// Gives the position p back in a map of level k, and tells how its own word turned; nothing where the position was free already.
+pub fn give(k: usize, s: &mut [u16], p: usize) -> Option<Turn>
     requires { (k ≤ 6) × (length s.old ≡ words k) × (p < cap k) }
     ensures value { result ≡ gives k s.old p }
     ensures s_after { s.new ≡ single Insert k s.old p }
@@ -67,7 +54,7 @@ pub fn give(k: usize, s: &mut [u16], p: usize) -> Given
 
 // The same where the children have the level j: the child gives the position back, and its bit is set if its own word became not empty.
 #[cycle(give_down)]
-fn give_node(j: usize, s: &mut [u16], p: usize) -> Given
+fn give_node(j: usize, s: &mut [u16], p: usize) -> Option<Turn>
     requires { (j ≤ 5) × (length s.old ≡ words (suc j)) × (p < cap (suc j)) }
     ensures value { result ≡ gives (suc j) s.old p }
     ensures s_after { s.new ≡ single Insert (suc j) s.old p }
@@ -76,16 +63,17 @@ fn give_node(j: usize, s: &mut [u16], p: usize) -> Given
     let i = sizes::child_of(j, p);
     let from = 1 + i * size;
     let to = from + size;
-    let below = give_below(j, &mut s[from..to], sizes::rest_of(j, p));
-    if let Given::BecameNotEmpty = below {
-        return give_own(s, i);
+    let turn = give_below(j, &mut s[from..to], sizes::rest_of(j, p))?;
+    match turn {
+        Turn::BecameNotEmpty => Some(give_own(s, i)),
+        _ => Some(turn),
     }
-    below
 }
 
-// The child's, by a table of the levels, so that the compiled code has each level's numbers in it.
+// The child's, by a table of the levels, so that the compiled code has each level's numbers in it. No closure takes the table's place: the
+// calls go round through it, and what falls from one to the next is the level, a number.
 #[cycle(give_down)]
-fn give_below(k: usize, s: &mut [u16], p: usize) -> Given
+fn give_below(k: usize, s: &mut [u16], p: usize) -> Option<Turn>
     requires { (k ≤ 5) × (length s.old ≡ words k) × (p < cap k) }
     ensures value { result ≡ gives k s.old p }
     ensures s_after { s.new ≡ single Insert k s.old p }
@@ -101,7 +89,8 @@ fn give_below(k: usize, s: &mut [u16], p: usize) -> Given
 }
 
 // A leaf word's: its bit is set already where the word would stay the same.
-fn give_leaf(s: &mut [u16], p: usize) -> Given
+#[tactic(auto, unfolding(words::specs::Sizes::words, words::specs::Sizes::cap))]
+fn give_leaf(s: &mut [u16], p: usize) -> Option<Turn>
     requires { (length s.old ≡ words 0) × (p < cap 0) }
     ensures value { result ≡ gives 0 s.old p }
     ensures s_after { s.new ≡ single Insert 0 s.old p }
@@ -109,32 +98,19 @@ fn give_leaf(s: &mut [u16], p: usize) -> Given
     let old = s[0];
     let new = word::give(old, p);
     if new.word == old {
-        return Given::AlreadyFree;
+        return None;
     }
     s[0] = new.word;
-    let turn = new.turn;
-    by_turn(turn)
+    Some(new.turn)
 }
 
 // A summary word's: its bit i is set.
-fn give_own(s: &mut [u16], i: usize) -> Given
+fn give_own(s: &mut [u16], i: usize) -> Turn
     requires { (0 < length s.old) × (i < 16) }
-    ensures value { result ≡ by_turn (turn (own s.old) (own s.new)) }
+    ensures value { result ≡ turn (own s.old) (own s.new) }
     ensures s_after { s.new ≡ set s.old 0 (word_of (λ m. cond (eqb m i) true (bit (own s.old) m))) }
 {
     let own = word::give(s[0], i);
     s[0] = own.word;
-    let turn = own.turn;
-    by_turn(turn)
-}
-
-// What is found where the position was not free, by how the own word turned. A word with a bit set has not become empty.
-fn by_turn(turn: Turn) -> Given
-    ensures { result ≡ by_turn turn }
-{
-    match turn {
-        Turn::BecameNotEmpty => Given::BecameNotEmpty,
-        Turn::BecameEmpty => Given::Stayed,
-        Turn::Stayed => Given::Stayed,
-    }
+    own.turn
 }

@@ -1,5 +1,5 @@
 // A range of positions made free, or taken: the Rust's `for_range`.
-ghost use Rattle.std.specs.Prelude.{◌≡◌, ◌≤◌, ◌<◌, length, replicate};
+ghost use Rattle.std.specs.Prelude.{◌≡◌, ◌≤◌, ◌<◌, length};
 ghost use Rattle.words.specs.Sizes.{words, cap};
 ghost use Rattle.change.specs.Change.{change};
 
@@ -34,12 +34,13 @@ pub fn for_range(c: Change, k: usize, s: &mut [u16], a: usize, b: usize)
     let from2 = 1 + last * size;
     let to2 = from2 + size;
     for_range(c, j, &mut s[from..to], a - start, sizes::start_of(j, 1));
-    fill(&mut s[to..from2], word::change(c, 0, 0, 16));
+    s[to..from2].fill(word::change(c, 0, 0, 16));
     for_range(c, j, &mut s[from2..to2], 0, b - sizes::start_of(j, last));
     s[0] = word::change_borders(c, s[0], first, last, s[from] != 0, s[from2] != 0);
 }
 
 // The same where the children are leaf words.
+#[tactic(auto, unfolding(words::specs::Sizes::cap, words::specs::Sizes::words))]
 pub fn for_words(c: Change, s: &mut [u16], a: usize, b: usize)
     requires { (length s.old ≡ words 1) × (a < b) × (b ≤ cap 1) }
     ensures { s.new ≡ change c 1 s.old a b }
@@ -56,16 +57,7 @@ pub fn for_words(c: Change, s: &mut [u16], a: usize, b: usize)
     }
     let m = 1 + last;
     s[i] = word::change(c, s[i], low, 16);
-    fill(&mut s[i + 1..m], word::change(c, 0, 0, 16));
+    s[i + 1..m].fill(word::change(c, 0, 0, 16));
     s[m] = word::change(c, s[m], 0, high);
     s[0] = word::change_borders(c, s[0], first, last, s[i] != 0, s[m] != 0);
-}
-
-// Makes every word v.
-pub fn fill(s: &mut [u16], v: u16)
-    ensures { s.new ≡ replicate (length s.old) v }
-{
-    for i in 0..s.len() {
-        s[i] = v;
-    }
 }

@@ -1,11 +1,11 @@
 -- A map is true where each of its words below the top says what its bit in the word above says, one depth after the other.
 -- Assumes nothing.
 use mathlib.Core.Path.{◌≡◌, refl, sym, ap, ap₂, ◌∙◌}
-use mathlib.Core.Bool.{Bool, true, false, not, beq}
+use mathlib.Core.Bool.{Bool, true, beq}
 use Prim.Native.Nat.{ℕ, zero, suc, ◌+◌, ◌*◌, ◌/◌, ◌%◌, ◌<◌}
 use native.Mathlib.Nat.{mul_comm, mul_assoc}
+use native.Mathlib.Numerals.{add-one}
 use native.Mathlib.Omega.{arith}
-use borrow.Author.Tests.{not-true, not-false}
 use Rattle.words.specs.Search.{all}
 use Rattle.words.specs.Bits.{bit, some}
 use Rattle.words.specs.Tree.{own, child, same, true?}
@@ -92,13 +92,7 @@ depths-true f k = both-ways _ _
 
 -- ---- as the code asks it of word m: w is the word above it, v the word, and b the bit
 
-module _ (f : ℕ → ℕ → ℕ) (d m : ℕ) {w v : ℕ} {b : Bool} (ew : w ≡ f d (m / 16)) (ev : v ≡ f (suc d) m) (eb : b ≡ bit w (m % 16)) where
-  is-test : beq b (some v) ≡ word_true f d m
-  unfolding word_true
-  is-test = beq-same b (some v) ∙ ap₂ same (eb ∙ ap (λ (x : ℕ). bit x (m % 16)) ew) (ap some ev)
-
-  pub word-wrong : not (beq b (some v)) ≡ true → word_true f d m ≡ false
-  word-wrong h = sym is-test ∙ not-true _ h
-
-  pub word-right : not (beq b (some v)) ≡ false → word_true f d m ≡ true
-  word-right h = sym is-test ∙ not-false _ h
+pub word-test : (f : ℕ → ℕ → ℕ) (d m : ℕ) {w v : ℕ} {b : Bool} → w ≡ f d (m / 16) → v ≡ f (d + 1) m → b ≡ bit w (m % 16)
+    → beq b (some v) ≡ word_true f d m
+unfolding word_true
+word-test f d m {w} {v} {b} ew ev eb = beq-same b (some v) ∙ ap₂ same (eb ∙ ap (λ (x : ℕ). bit x (m % 16)) ew) (ap some (ev ∙ ap (λ (e : ℕ). f e m) (add-one d)))

@@ -1,7 +1,7 @@
 -- The sections of an image: where they stand, and what is read from them. Assumes nothing.
 use mathlib.Core.Path.{◌≡◌, refl, sym, ap, ap₂, ◌∙◌}
 use mathlib.Core.List.{List, ◌++◌, append_assoc}
-use Prim.Native.Nat.{ℕ, zero, suc, ◌+◌, ◌*◌, ◌/◌, ◌<◌, ◌≤◌}
+use Prim.Native.Nat.{ℕ, zero, suc, ◌+◌, ◌*◌, ◌<◌, ◌≤◌}
 use native.Mathlib.Numerals.{add-one}
 use native.Mathlib.Omega.{arith}
 use lib.ListN.{length, take, get_or, length-append}
@@ -14,8 +14,7 @@ use Rattle.image.specs.Image.{section, opening, image, start, image_length}
 use Rattle.image.specs.Reading.{count_in, word_in}
 use Rattle.image.proofs.Numbers.{length-bytes, length-words, words-more, written-none, written-more}
 use Rattle.image.proofs.InDepth.{length-depth}
-use Rattle.words.proofs.Places.{count-node}
-use Rattle.image.proofs.Starts.{start-more, start-small}
+use Rattle.image.proofs.Starts.{start-more, start-small, start-le}
 
 -- ---- the sections in their order
 
@@ -95,25 +94,6 @@ pub word-read : (bytes : List ℕ) (d j : ℕ) {r a : ℕ} → r ≡ number_of (
 unfolding word_in
 word-read bytes d j e h = e ∙ ap (λ (x : ℕ). number_of (part (x + 4 + 2 * j) 2 bytes)) h
 
--- a turn of the test of the words below the depth d, in an image of n bytes: word m, where the two sections start at `above` and `below`
-pub record Below (d n above below m : ℕ) : Type 0 where
-  pub above-is : above ≡ start d
-  pub below-is : below ≡ start (suc d)
-  pub index-lt : m < count (suc d)
-  pub above-ends : above + 4 + 2 * (m / 16) + 2 ≤ n
-  pub below-ends : below + 4 + 2 * m + 2 ≤ n
-  pub small : below + 4 + 2 * m ≤ 35791422
-
-pub below-depth : (d n : ℕ) {above below e m : ℕ} → d < 6 → start (suc (suc d)) ≤ n → above ≡ start d → below ≡ start (d + 1)
-    → e ≡ count (d + 1) → m < e → Below d n above below m
-below-depth d n {above} {below} {e} {m} l h ea eb ec lt =
-    let next : below ≡ start (suc d) = eb ∙ ap start (add-one d) in
-    let index : m < count (suc d) = rw (ec ∙ ap count (add-one d)) at lt in
-    record {
-      above-is = ea;
-      below-is = next;
-      index-lt = index;
-      above-ends = omega (arith, start-more d, start-more (suc d), count-node d);
-      below-ends = omega (arith, start-more (suc d));
-      small = omega (arith, start-more (suc d), start-small (suc (suc d)) (omega arith));
-    }
+-- word j of the section of depth d ends within the image
+pub word-inside : (k d j : ℕ) → k ≤ 6 → d ≤ k → j < count d → (start d + 4 + 2 * j + 2 ≤ image_length k) × (image_length k ≤ 35791422)
+word-inside k d j h le l = (omega (arith, start-more d, start-le (suc d) (suc k) (omega arith)), start-small (suc k) (omega arith))

@@ -5,7 +5,8 @@ pub mod InDepth
 pub mod DepthTruth
 pub mod ImageParts
 pub mod Filling
-pub mod Refused
+pub mod Ranges
+pub mod Calls
 pub mod RoundTrip
 pub mod Theorems
 pub mod Contracts

@@ -2,13 +2,14 @@
 use mathlib.Core.Path.{◌≡◌, refl, sym, ap, ap₂, ◌∙◌}
 use mathlib.Core.List.{List, [], ◌∷◌, ◌++◌, append_assoc, append-nil}
 use Prim.Native.Nat.{ℕ, zero, suc, ◌+◌, ◌*◌, ◌/◌, ◌%◌, ◌^◌, ◌<◌, ◌≤◌}
-use native.Mathlib.Nat.{add-zero, add_assoc, mul_comm, mod-eq_of_lt}
+use native.Mathlib.Nat.{add-zero, add_assoc}
 use native.Mathlib.Numerals.{add-one}
 use native.Mathlib.Decide.{dec_lt}
 use native.Mathlib.Omega.{arith}
-use lib.Arith.{digits_mod}
-use lib.ListN.{length, take, drop, get_or, set, length-append, length-take, length-drop, take-append-drop, get_or-eq_default}
-use lib.Seq.{drop-cons, get_or-take, get_or-drop, take-add, drop-drop, take-take, take_at, drop_at, take-suc, drop-append-le, take-append-le, sets-eq}
+use lib.ListN.{length, take, drop, get_or, length-append, length-take, length-drop, take-append-drop, get_or-eq_default}
+use lib.Seq.{drop-cons, get_or-take, get_or-drop, take-add, drop-drop, take-take, take_at, drop_at, take-suc, drop-append-le, take-append-le}
+use borrow.Rule.Slice.PartMut.{put_mid}
+use Rattle.std.specs.Int.{w16, w32, to_le_bytes}
 use Rattle.image.specs.Bytes.{Bytes, bytes_of, number_of, word_bytes, part, written}
 
 -- ---- parts
@@ -84,20 +85,28 @@ number-two bs a h =
     rw (part-cons a 1 bs (omega arith), part-cons (suc a) 0 bs (omega arith), add-one)
     (omega arith)
 
--- 4 bytes, by their halves
-pub number-four : (bs : List ℕ) (a : ℕ) → a + 4 ≤ length bs → number_of (part a 4 bs) ≡ number_of (part a 2 bs) + 65536 * number_of (part (a + 2) 2 bs)
+-- and 4 bytes
+pub number-four : (bs : List ℕ) (a : ℕ) → a + 4 ≤ length bs
+    → number_of (part a 4 bs) ≡ get_or bs a 0 + 256 * get_or bs (a + 1) 0 + 65536 * get_or bs (a + 2) 0 + 16777216 * get_or bs (a + 3) 0
 unfolding number_of
-number-four bs a h = rw (part-add a 2 2 bs, part-cons a 1 bs (omega arith), part-cons (suc a) 0 bs (omega arith)) (omega arith)
+number-four bs a h =
+    let second : suc a ≡ a + 1 = omega arith in
+    let third : suc (suc a) ≡ a + 2 = omega arith in
+    let fourth : suc (suc (suc a)) ≡ a + 3 = omega arith in
+    rw (part-cons a 3 bs (omega arith), part-cons (suc a) 2 bs (omega arith), part-cons (suc (suc a)) 1 bs (omega arith), part-cons (suc (suc (suc a))) 0 bs (omega arith), fourth, third, second)
+    (omega arith)
 
-pub bytes-four : (v : ℕ) → v < 4294967296 → bytes_of 2 (v % 65536) ++ bytes_of 2 (v / 65536) ≡ bytes_of 4 v
+-- the bytes of a word and of a number of 4 bytes, as std has them
+pub two-bytes : (w : ℕ) → to_le_bytes w16 w ≡ bytes_of 2 w
 unfolding bytes_of
-bytes-four v h =
-    let first : v % 65536 % 256 ≡ v % 256 = omega arith in
-    let cut : v / 256 ≡ 256 * (v / 65536) + v % 65536 / 256 = omega arith in
-    let small : v % 65536 / 256 < 256 = omega arith in
-    let second : v % 65536 / 256 % 256 ≡ v / 256 % 256 = mod-eq_of_lt small ∙ sym (ap (λ (n : ℕ). n % 256) (cut ∙ rw (mul_comm 256 (v / 65536))) ∙ digits_mod (v / 65536) small) in
-    let third : v / 65536 ≡ v / 256 / 256 = omega arith in
-    rw (first, second, third)
+two-bytes w = refl
+
+pub four-bytes : (n : ℕ) → to_le_bytes w32 n ≡ bytes_of 4 n
+unfolding bytes_of
+four-bytes n =
+    let third : n / 65536 ≡ n / 256 / 256 = omega arith in
+    let fourth : n / 16777216 ≡ n / 256 / 256 / 256 = omega arith in
+    rw (third, fourth)
 
 -- ---- words as bytes
 
@@ -165,15 +174,10 @@ written-more a n xs ys t e h =
     (append_assoc p xs _ ∙ ap (λ (r : List ℕ). p ++ (xs ++ (ys ++ r)))
     (sym (drop-drop (length ys) (a + n) ((p ++ xs) ++ q)) ∙ ap (drop (length ys)) (drop_at (p ++ xs) q (a + n) whole) ∙ drop-drop (length ys) (a + n) t))
 
--- the bytes of a word, as the code stores them
-pub two-bytes : (w : ℕ) → w < 65536 → w % 256 ∷ w / 256 ∷ [] ≡ bytes_of 2 w
-unfolding bytes_of
-two-bytes w h = let high : w / 256 % 256 ≡ w / 256 = omega arith in sym (rw high)
-
--- two stores
-pub written-two : (a x y : ℕ) (t : List ℕ) → a + 2 ≤ length t → set (set t a x) (a + 1) y ≡ written a (x ∷ y ∷ []) t
+-- a part that was copied over, as the code writes its bytes
+pub put-written : (a k : ℕ) (xs ys t : List ℕ) → ys ≡ xs → length ys ≡ k → put_mid a k t ys ≡ written a xs t
 unfolding written
-written-two a x y t h = rw (add-one, ← append_assoc) (sets-eq (x ∷ y ∷ []) t a h)
+put-written a k xs ys t e h = rw (← h, e, drop-drop (length xs) a t)
 
 -- what was written at the front is read there
 pub take-written : (n : ℕ) (xs t : List ℕ) → length xs ≡ n → take n (written 0 xs t) ≡ xs

@@ -3,11 +3,16 @@ use mathlib.Core.Path.{◌≡◌, refl, sym, ap, ◌∙◌}
 use mathlib.Core.Logic.{⊎_elim}
 use Prim.Native.Nat.{ℕ, zero, suc, ◌+◌, ◌-◌, ◌*◌, ◌<◌, ◌≤◌}
 use native.Mathlib.Nat.{eq-or-lt_of_le}
+use native.Mathlib.Decide.{dec_lt}
 use native.Mathlib.Omega.{arith}
 use lib.Dec.{eqb}
 use borrow.Author.Tests.{eqb-true, eq-eqb, ne_eqb}
+use Rattle.std.specs.Prelude.{Option, Some, None}
+use Rattle.std.specs.Option.{MatchOption}
+use Rattle.words.specs.Below.{below}
 use Rattle.words.specs.Sizes.{words}
 use Rattle.words.proofs.Search.{first-is, is-first}
+use Rattle.words.proofs.Below.{below-some, below-none}
 use Rattle.words.proofs.Levels.{words-small}
 use Rattle.words.proofs.Places.{words-count}
 use Rattle.words.specs.Place.{count}
@@ -60,3 +65,18 @@ level-length k h =
 pub length-level : (n : ℕ) → image_level n < 7 → image_length (image_level n) ≡ n
 unfolding image_level
 length-level n h = sym (eqb-true n (image_length (image_level n)) ((first-is (λ k. eqb n (image_length k)) 0 7 7 refl).here h))
+
+-- the search of the seven lengths finds it
+pub level-found : (n : ℕ) (r : Option ℕ) → MatchOption r ((k : ℕ) → 0 ≤ k → k < 7 → n ≡ image_length k → ⊥) (λ k. (0 ≤ k) × (k < 7) × (n ≡ image_length k) × ((j : ℕ) → 0 ≤ j → j < k → n ≡ image_length j → ⊥)) → r ≡ below 7 (image_level n)
+level-found n None h =
+    let large : image_level n < 7 → ⊥ = λ l. h (image_level n) (omega arith) l (sym (length-level n l)) in
+    below-none (omega arith)
+level-found n (Some k) h = below-some h.1 ∙ ap (below 7) (sym (ap image_level h.2 ∙ level-length k h.1))
+
+-- and what is found is that level
+pub level-is : (n k : ℕ) → Some k ≡ below 7 (image_level n) → (k ≤ 6) × (n ≡ image_length k)
+level-is n k e =
+    elim (dec_lt (image_level n) 7) [
+      | yes l ↦ let same : k ≡ image_level n = cc (below-some l) in (omega arith, sym (ap image_length same ∙ length-level n l))
+      | no ge ↦ absurd (cc (below-none {bound = 7} {n = image_level n} (omega arith)))
+    ]

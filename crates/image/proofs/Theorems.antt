@@ -5,7 +5,6 @@ use mathlib.Core.Path.{◌≡◌, refl, sym, ap, ap₂, ◌∙◌}
 use mathlib.Core.Bool.{true, not, ◌||◌}
 use mathlib.Core.List.{List, [], ◌∷◌}
 use Prim.Native.Nat.{ℕ, suc, ◌≤◌, ◌<◌}
-use native.Mathlib.Numerals.{add-one}
 use native.Mathlib.Omega.{arith}
 use lib.Dec.{leb, ltb}
 use lib.ListN.{length, take}
@@ -28,7 +27,7 @@ use Rattle.image.proofs.Starts.{level-length, length-level}
 use Rattle.image.proofs.InDepth.{length-map}
 use Rattle.image.proofs.ImageParts.{length-image}
 use Rattle.image.proofs.RoundTrip.{counted-image, map-image, image-map, fits-map}
-use Rattle.image.proofs.Refused.{read-done, write-done}
+use Rattle.image.proofs.Calls.{read-done, write-done}
 
 -- ---- the seven lengths
 
@@ -125,9 +124,8 @@ pub image-read : (k : ℕ) (s t : List ℕ) → k < 7 → TrueMap k s → length
 image-read k s t lt m room =
     let back = map-image k s m.sized m.fits in
     let level = sym (ap image_level (length-image k s) ∙ level-length k lt) in
-    let done = read-done (image k s) t k (level, omega arith) (omega arith) (counted-image k s (omega arith))
-    (omega (arith, m.sized)) (ap (true? k) back ∙ m.truth) (ap (λ (x : List ℕ). written 0 x t) (sym back)) in
-    (sym (ap given (sym (add-one k)) ∙ done.0), sym done.1)
+    let done = read-done (image k s) t k level lt (counted-image k s (omega arith)) (omega (arith, m.sized)) (ap (true? k) back ∙ m.truth) in
+    (done.0, done.1 ∙ ap (λ (x : List ℕ). written 0 x t) back)
 
 -- ---- what is accepted is the image of a true map, and of no other
 
@@ -170,6 +168,7 @@ read-write bytes t b n f e room =
     let size : length m ≡ words k = length-map (word_in bytes) k 0 in
     let is : take (words k) (read_after bytes t) ≡ m = ap (take (words k)) w.after ∙ take-written (words k) m t size in
     let level : k ≡ level_of (length m) = sym (ap level_of size ∙ level-words k w.level) in
-    let done = write-done m b k (level, omega (arith, w.level)) (omega (arith, w.level)) w.truth (omega (arith, w.sized))
-    (ap (λ (x : List ℕ). written 0 x b) (sym (image-map k bytes w.sized f w.counts))) in
-    (ap (λ (x : List ℕ). write_says x b) is ∙ sym done.0 ∙ ap given (sym w.sized), ap (λ (x : List ℕ). write_after x b) is ∙ sym done.1)
+    let done = write-done m b k level w.level w.truth (omega (arith, w.sized)) in (
+      ap (λ (x : List ℕ). write_says x b) is ∙ done.0 ∙ ap given (sym w.sized),
+      ap (λ (x : List ℕ). write_after x b) is ∙ done.1 ∙ ap (λ (x : List ℕ). written 0 x b) (image-map k bytes w.sized f w.counts),
+    )

@@ -3,5 +3,4 @@ pub mod Bytes
 pub mod Depths
 pub mod Image
 pub mod Reading
-pub mod Answer
 pub mod Calls

@@ -1,5 +1,6 @@
 // Where the sections of an image stand, by their depth. A map's level k counts the levels below its own word.
-ghost use Rattle.std.specs.Prelude.{◌≡◌, ◌≤◌};
+ghost use Rattle.std.specs.Prelude.{◌≡◌, ◌≤◌, ◌<◌};
+ghost use Rattle.words.specs.Below.{below};
 ghost use Rattle.words.specs.Place.{count};
 ghost use Rattle.image.specs.Image.{start, image_level};
 
@@ -27,14 +28,9 @@ pub fn start_of(d: usize) -> usize
     OPENING + 4 * d + 2 * sizes::words_of(d - 1)
 }
 
-// The level of a map whose image has n bytes; 7 where n is none of the seven lengths.
-pub fn image_level(n: usize) -> usize
-    ensures { (result ≡ image_level n) × (result ≤ 7) }
+// The level of a map whose image has n bytes, where n is one of the seven lengths.
+pub fn image_level(n: usize) -> Option<usize>
+    ensures { result ≡ below 7 (image_level n) }
 {
-    for k in 0..7 {
-        if n == start_of(k + 1) {
-            return k;
-        }
-    }
-    7
+    (0..7).find(|&k| n == start_of(k + 1))
 }

@@ -2,256 +2,162 @@
 // proper beginning of an image.
 #![tactic(auto)]
 
-ghost use Rattle.std.specs.Prelude.{◌≤◌, ◌<◌, length};
-
 use bitmap::{BitAlloc4K, BitAlloc16, BitAlloc64K, BitAlloc256, Refusal};
-use image::Got;
-use show::Out;
 use std::io;
 
 mod show;
 
 fn main(rt: HostRuntime) -> io::Result<()> {
-    let mut out = show::begin(rt.stdout());
-    round_trips(&mut out);
-    refusals(&mut out);
-    changed_bytes(&mut out);
-    beginnings(&mut out);
-    show::end(out)
+    round_trips(&rt)?;
+    refusals(&rt)?;
+    changed_bytes(&rt)?;
+    beginnings(&rt)
 }
 
-// Maps of 1 to 4 levels: the free positions are chosen so that each depth has words that are 0 and words that are not.
-
-fn one_level() -> [u16; BitAlloc16::WORDS] {
-    [0x8421]
-}
+// Maps of 2 to 4 levels: the free positions are chosen so that each depth has words that are 0 and words that are not.
 
 fn two_levels() -> [u16; BitAlloc256::WORDS] {
-    let mut s = [0u16; BitAlloc256::WORDS];
-    s[0] = 0x8009;
-    s[1] = 0x0100;
-    s[4] = 0xffff;
-    s[16] = 0x8001;
-    s
+    map([(0, 0x8009), (1, 0x0100), (4, 0xffff), (16, 0x8001)])
 }
 
 fn three_levels() -> [u16; BitAlloc4K::WORDS] {
-    let mut s = [0u16; BitAlloc4K::WORDS];
-    s[0] = 0x8004;
-    s[35] = 0x0021;
-    s[36] = 0x1234;
-    s[41] = 0x00ff;
-    s[256] = 0x8000;
-    s[272] = 0x8000;
-    s
+    map([
+        (0, 0x8004),
+        (35, 0x0021),
+        (36, 0x1234),
+        (41, 0x00ff),
+        (256, 0x8000),
+        (272, 0x8000),
+    ])
 }
 
 fn four_levels() -> [u16; BitAlloc64K::WORDS] {
-    let mut s = [0u16; BitAlloc64K::WORDS];
-    s[0] = 0x0080;
-    s[1912] = 0x0001;
-    s[1913] = 0x0002;
-    s[1915] = 0xabcd;
+    map([(0, 0x0080), (1912, 0x0001), (1913, 0x0002), (1915, 0xabcd)])
+}
+
+// A map whose words are 0 but for those at the given places.
+fn map<const WORDS: usize, const SOME: usize>(some: [(usize, u16); SOME]) -> [u16; WORDS] {
+    let mut s = [0; WORDS];
+    for (i, w) in some {
+        if let Some(word) = s.get_mut(i) {
+            *word = w;
+        }
+    }
     s
 }
 
-// Whether two stores hold the same.
-fn same_words(a: &[u16], b: &[u16]) -> bool {
-    a == b
+fn round_trips(rt: &impl Print) -> io::Result<()> {
+    show::title(rt, "there and back, 1 to 4 levels")?;
+    there_and_back(rt, [0x8421; BitAlloc16::WORDS], [0; 6])?;
+    there_and_back(rt, two_levels(), [0; 42])?;
+    there_and_back(rt, three_levels(), [0; 558])?;
+    there_and_back(rt, four_levels(), [0; 8754])
 }
 
-// Writes the map, reads what was written, and writes what was read.
-fn trip(out: &mut Out, map: &[u16], image: &mut [u8], back: &mut [u16], again: &mut [u8]) {
-    show::text(out, b"write");
-    show::wrote(out, image::write(map, image));
-    show::text(out, b", read");
-    show::got(out, image::read(image, back));
-    show::sameness(out, same_words(map, back));
-    show::text(out, b", write");
-    show::wrote(out, image::write(back, again));
-    show::sameness(out, &*image == &*again);
-    show::text(out, b"\n");
-}
-
-fn round_trips(out: &mut Out) {
-    show::title(out, b"there and back, 1 to 4 levels");
-    let map = one_level();
-    let mut image = [0u8; 6];
-    let mut back = [0u16; BitAlloc16::WORDS];
-    let mut again = [0u8; 6];
-    trip(out, &map, &mut image, &mut back, &mut again);
-    two_there_and_back(out);
-    three_there_and_back(out);
-    four_there_and_back(out);
-}
-
-fn two_there_and_back(out: &mut Out) {
-    let map = two_levels();
-    let mut image = [0u8; 42];
-    let mut back = [0u16; BitAlloc256::WORDS];
-    let mut again = [0u8; 42];
-    trip(out, &map, &mut image, &mut back, &mut again);
-}
-
-fn three_there_and_back(out: &mut Out) {
-    let map = three_levels();
-    let mut image = [0u8; 558];
-    let mut back = [0u16; BitAlloc4K::WORDS];
-    let mut again = [0u8; 558];
-    trip(out, &map, &mut image, &mut back, &mut again);
-}
-
-fn four_there_and_back(out: &mut Out) {
-    let map = four_levels();
-    let mut image = [0u8; 8754];
-    let mut back = [0u16; BitAlloc64K::WORDS];
-    let mut again = [0u8; 8754];
-    trip(out, &map, &mut image, &mut back, &mut again);
+// Writes the map to an image, reads what was written, and writes what was read.
+fn there_and_back<const WORDS: usize, const BYTES: usize>(
+    rt: &impl Print,
+    map: [u16; WORDS],
+    mut image: [u8; BYTES],
+) -> io::Result<()> {
+    let mut back = [0; WORDS];
+    let mut again = [0; BYTES];
+    print!(rt; "write")?;
+    show::answer(rt, "bytes", image::write(&map, &mut image))?;
+    print!(rt; ", read")?;
+    show::answer(rt, "levels", image::read(&image, &mut back))?;
+    show::sameness(rt, map == back)?;
+    print!(rt; ", write")?;
+    show::answer(rt, "bytes", image::write(&back, &mut again))?;
+    show::sameness(rt, image == again)?;
+    println!(rt; "")
 }
 
 // A line for a write.
-fn write_line(out: &mut Out, map: &[u16], target: &mut [u8]) {
-    show::text(out, b"write");
-    show::number(out, map.len());
-    show::text(out, b" words to");
-    show::number(out, target.len());
-    show::text(out, b" bytes:");
-    show::wrote(out, image::write(map, target));
-    show::text(out, b"\n");
+fn write_line(rt: &impl Print, map: &[u16], target: &mut [u8]) -> io::Result<()> {
+    print!(rt; "write {} words to {} bytes:", map.len(), target.len())?;
+    show::answer(rt, "bytes", image::write(map, target))?;
+    println!(rt; "")
 }
 
 // A line for a read.
-fn read_line(out: &mut Out, bytes: &[u8], target: &mut [u16]) {
-    show::text(out, b"read");
-    show::number(out, bytes.len());
-    show::text(out, b" bytes to");
-    show::number(out, target.len());
-    show::text(out, b" words:");
-    show::got(out, image::read(bytes, target));
-    show::text(out, b"\n");
+fn read_line(rt: &impl Print, bytes: &[u8], target: &mut [u16]) -> io::Result<()> {
+    print!(rt; "read {} bytes to {} words:", bytes.len(), target.len())?;
+    show::answer(rt, "levels", image::read(bytes, target))?;
+    println!(rt; "")
 }
 
-fn refusals(out: &mut Out) {
-    show::title(out, b"refusals");
-    let mut bytes = [0u8; 64];
-    let none = [0u16; 0];
-    write_line(out, &none, &mut bytes);
-    let sixteen = [0u16; 16];
-    write_line(out, &sixteen, &mut bytes);
+fn refusals(rt: &impl Print) -> io::Result<()> {
+    show::title(rt, "refusals")?;
+    let mut bytes = [0; 64];
+    write_line(rt, &[], &mut bytes)?;
+    write_line(rt, &[0; 16], &mut bytes)?;
     let mut untrue = two_levels();
     untrue[2] = 1;
-    let mut short = [0u8; 41];
-    write_line(out, &untrue, &mut short);
+    let mut short = [0; 41];
+    write_line(rt, &untrue, &mut short)?;
     let map = two_levels();
-    write_line(out, &map, &mut short);
-    write_line(out, &map, &mut bytes);
-    more_refusals(out);
+    write_line(rt, &map, &mut short)?;
+    write_line(rt, &map, &mut bytes)?;
+    more_refusals(rt)
 }
 
-fn more_refusals(out: &mut Out) {
-    let map = two_levels();
-    let mut image = [0u8; 42];
-    image::write(&map, &mut image);
-    let mut short = [0u16; 16];
-    read_line(out, &image, &mut short);
-    let mut long = [0u16; 20];
-    read_line(out, &image, &mut long);
-    let beyond = [0u8; 43];
-    read_line(out, &beyond, &mut long);
+fn more_refusals(rt: &impl Print) -> io::Result<()> {
+    let mut image = image_of::<_, 42>(two_levels());
+    let mut short = [0; 16];
+    read_line(rt, &image, &mut short)?;
+    let mut long = [0; 20];
+    read_line(rt, &image, &mut long)?;
+    read_line(rt, &[0; 43], &mut long)?;
     image[12] = 1;
-    read_line(out, &image, &mut short);
-    read_line(out, &image, &mut long);
+    read_line(rt, &image, &mut short)?;
+    read_line(rt, &image, &mut long)?;
     image[0] = 2;
-    read_line(out, &image, &mut short);
+    read_line(rt, &image, &mut short)
 }
 
-// Another byte.
-fn flip(b: u8) -> u8 {
-    b ^ 1
+// The image of a map that has one of so many bytes.
+fn image_of<const WORDS: usize, const BYTES: usize>(map: [u16; WORDS]) -> [u8; BYTES] {
+    let mut image = [0; BYTES];
+    let _ = image::write(&map, &mut image);
+    image
 }
 
-// The image with the byte at p changed.
-fn changed_at(out: &mut Out, image: &mut [u8], p: usize)
-    requires { p < length image.old }
-{
-    image[p] = flip(image[p]);
-    let mut back = [0u16; BitAlloc256::WORDS];
-    show::text(out, b"byte");
-    show::number(out, p);
-    show::text(out, b":");
-    show::got(out, image::read(image, &mut back));
-    show::text(out, b"\n");
-    image[p] = flip(image[p]);
-}
-
-fn each_changed(out: &mut Out, image: &mut [u8]) {
+// A line for each byte: what is answered where it alone is another.
+fn changed_bytes(rt: &impl Print) -> io::Result<()> {
+    show::title(rt, "an image of 2 levels with one byte changed")?;
+    let image = image_of::<_, 42>(two_levels());
     for p in 0..image.len() {
-        changed_at(out, image, p);
+        let mut changed = image;
+        changed[p] ^= 1;
+        let mut back = [0; BitAlloc256::WORDS];
+        print!(rt; "byte {p}:")?;
+        show::answer(rt, "levels", image::read(&changed, &mut back))?;
+        println!(rt; "")?;
     }
+    Ok(())
 }
 
-fn changed_bytes(out: &mut Out) {
-    show::title(out, b"an image of 2 levels with one byte changed");
-    let map = two_levels();
-    let mut image = [0u8; 42];
-    image::write(&map, &mut image);
-    each_changed(out, &mut image);
-}
-
-// Whether an answer is refusal 8.
-fn bad(g: Got) -> bool {
-    match g {
-        Got::No(r) => match r {
-            Refusal::BadImage => true,
-            _ => false,
-        },
-        Got::Levels(_) => false,
-    }
-}
-
-// Reads the first n bytes: 1 where they are refused with 8, and otherwise 0 and a line.
-fn beginning(out: &mut Out, image: &[u8], n: usize) -> usize
-    requires { n ≤ length image.now }
-    ensures { result ≤ 1 }
-{
-    let mut back = [0u16; BitAlloc4K::WORDS];
-    let g = image::read(&image[..n], &mut back);
-    if bad(g) {
-        return 1;
-    }
-    show::text(out, b"first");
-    show::number(out, n);
-    show::text(out, b":");
-    show::got(out, g);
-    show::text(out, b"\n");
-    0
-}
-
-// How many proper beginnings are refused with 8.
-fn each_beginning(out: &mut Out, image: &[u8]) -> usize {
-    let mut refused = 0;
+// Reads each proper beginning, and says how many are refused with 8 and what is answered to the others.
+fn beginnings_of(rt: &impl Print, image: &[u8]) -> io::Result<()> {
+    let mut refused = 0usize;
     for n in 0..image.len() {
-        refused += beginning(out, image, n);
+        let mut back = [0; BitAlloc4K::WORDS];
+        let answer = image::read(&image[..n], &mut back);
+        if answer == Err(Refusal::BadImage) {
+            refused += 1;
+        } else {
+            print!(rt; "first {n}:")?;
+            show::answer(rt, "levels", answer)?;
+            println!(rt; "")?;
+        }
     }
-    refused
+    println!(rt; "the others: no 8, {refused}")
 }
 
-fn beginnings_of(out: &mut Out, image: &[u8]) {
-    let refused = each_beginning(out, image);
-    show::text(out, b"the others: no 8,");
-    show::number(out, refused);
-    show::text(out, b"\n");
-}
-
-fn beginnings(out: &mut Out) {
-    show::title(out, b"every proper beginning of an image of 2 levels");
-    let two = two_levels();
-    let mut small = [0u8; 42];
-    image::write(&two, &mut small);
-    beginnings_of(out, &small);
-    show::title(out, b"every proper beginning of an image of 3 levels");
-    let three = three_levels();
-    let mut large = [0u8; 558];
-    image::write(&three, &mut large);
-    beginnings_of(out, &large);
+fn beginnings(rt: &impl Print) -> io::Result<()> {
+    show::title(rt, "every proper beginning of an image of 2 levels")?;
+    beginnings_of(rt, &image_of::<_, 42>(two_levels()))?;
+    show::title(rt, "every proper beginning of an image of 3 levels")?;
+    beginnings_of(rt, &image_of::<_, 558>(three_levels()))
 }

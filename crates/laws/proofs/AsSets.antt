@@ -12,8 +12,7 @@ use lib.ListN.{length}
 use borrow.Author.Tests.{eq-eqb, ne_eqb, lt-ltb, le-ltb, le-leb, lt-leb, ltb-false, leb-false}
 use Rattle.words.specs.declared.kind.Change.{Change}
 use Rattle.words.specs.declared.kind.Change.TheVariants.{Insert, Remove}
-use Rattle.bitmap.specs.declared.base.Base.{Base}
-use Rattle.bitmap.specs.declared.base.Base.TheVariants.{Any, At}
+use Rattle.std.specs.Prelude.{Option, Some, None}
 use Rattle.words.specs.Search.{first_from}
 use Rattle.words.specs.Bits.{digit, within}
 use Rattle.words.specs.Sizes.{cap, level_of}
@@ -23,7 +22,8 @@ use Rattle.change.specs.Single.{single}
 use Rattle.change.specs.GiveBack.{first_leaf, give_back}
 use Rattle.bitmap.specs.Answer.{Said, given, refused, refuse}
 use Rattle.bitmap.specs.Calls.{answer, after, settle, alloc_says, run_says, give_says, give_run_says, range_says}
-use Rattle.words.proofs.Tests.{sort, none-of}
+use Rattle.std.proofs.lemmas.Bool.{cases_Bool}
+use Rattle.words.proofs.Tests.{none-of}
 use Rattle.words.proofs.Search.{first-is}
 use Rattle.words.proofs.Levels.{words-level}
 use Rattle.bitmap.proofs.Refusals.{given-on}
@@ -44,14 +44,14 @@ use Rattle.bitmap.specs.Maps.{TrueMap, TrueStore}
 
 -- of a position in the map
 past : (n p : ℕ) (x y : Said) → (p < n → x ≡ y) → refuse 2 (leb n p) x ≡ refuse 2 (leb n p) y
-past n p x y h = ⊎_elim (λ t. rw t) (λ t. rw t (h (leb-false n p t))) (sort (leb n p))
+past n p x y h = ⊎_elim (λ t. rw t) (λ t. rw t (h (leb-false n p t))) (cases_Bool (leb n p))
 
 -- of a range in the map
 in-map : (n a b : ℕ) → (ltb b a || ltb n b) ≡ false → (a ≤ b) × (b ≤ n)
 in-map n a b e = let r = none-of (ltb b a) (ltb n b) e in (ltb-false b a r.0, ltb-false n b r.1)
 
 in-range : (n a b : ℕ) (x y : Said) → (a ≤ b → b ≤ n → x ≡ y) → range n a b x ≡ range n a b y
-in-range n a b x y h = ⊎_elim (λ t. rw t) (λ t. let r = in-map n a b t in rw (t, h r.0 r.1)) (sort (ltb b a || ltb n b))
+in-range n a b x y h = ⊎_elim (λ t. rw t) (λ t. let r = in-map n a b t in rw (t, h r.0 r.1)) (cases_Bool (ltb b a || ltb n b))
 
 -- a range that is given lies in the map
 range-given : (n a b v : ℕ) → given v ≡ range n a b (given 0) → (a ≤ b) × (b ≤ n)
@@ -124,11 +124,11 @@ module _ (k : ℕ) (s : List ℕ) (m : TrueMap k s) where
       let r = settles (alloc_says k s) (set_says alloc (free? k s) (cap k)) (λ p. change Remove k s p (p + 1)) (λ p. without (free? k s) p (p + 1)) e (λ v _. removes v (v + 1)) in
       record { says = e; leaves = r.1; again = r.0 }
 
-  run-says : (base : Base) (size align : ℕ) → run_says base size align k s ≡ set_says (alloc_contiguous base size align) (free? k s) (cap k)
-  run-says Any size align = refl
-  run-says (At b) size align = refl
+  run-says : (base : Option ℕ) (size align : ℕ) → run_says base size align k s ≡ set_says (alloc_contiguous base size align) (free? k s) (cap k)
+  run-says None size align = refl
+  run-says (Some b) size align = refl
 
-  run-set : (base : Base) (size align : ℕ) → AsSet (alloc_contiguous base size align) k s
+  run-set : (base : Option ℕ) (size align : ℕ) → AsSet (alloc_contiguous base size align) k s
   run-set base size align =
       let e = run-says base size align in
       let r = settles (run_says base size align k s) (set_says (alloc_contiguous base size align) (free? k s) (cap k))
@@ -252,14 +252,11 @@ as-set check k s m = check-set k s m
 
 -- a call on a store of a level is the one on the map
 module _ (s : List ℕ) (h : level_of (length s) < 7) where
-  of-level : (level_of (length s) ≡ level_of (length s)) × (level_of (length s) ≤ 7)
-  of-level = (refl, omega arith)
-
   pub answer-level : (f : ℕ → List ℕ → Said) → answer f s ≡ f (level_of (length s)) s
-  answer-level f = sym (answer-at s (level_of (length s)) of-level (omega arith) f)
+  answer-level f = sym (answer-at s (level_of (length s)) refl h f)
 
   pub after-level : (f : ℕ → List ℕ → List ℕ) → after f s ≡ f (level_of (length s)) s
-  after-level f = sym (after-at s (level_of (length s)) of-level (omega arith) f)
+  after-level f = sym (after-at s (level_of (length s)) refl h f)
 
 -- a store that is a true map is one of its level
 pub map-of : (s : List ℕ) → TrueStore s → TrueMap (level_of (length s)) s

@@ -14,7 +14,7 @@ use Rattle.words.specs.Sizes.{words, cap}
 use Rattle.words.specs.Tree.{Fits, own, child, row, node, leaf?, free?, true?}
 use Rattle.change.specs.Renew.{replaced, renew}
 use Rattle.change.specs.Change.{low, high, visits, change}
-use Rattle.words.proofs.Tests.{sort}
+use Rattle.std.proofs.lemmas.Bool.{cases_Bool}
 use Rattle.words.proofs.Bits.{bit-pack, pack-lt}
 use Rattle.words.proofs.Levels.{cap-pos}
 use Rattle.words.proofs.Rows.{length-child}
@@ -50,14 +50,14 @@ module _ (k : ℕ) (at mark : ℕ → Bool) (new : ℕ → List ℕ) (s : List �
           ⊎_elim
           (λ m. ap (λ (b : Bool). cond b (some (own (replaced k at new s i))) (bit (own s) i)) m)
           (λ m. ap (λ (b : Bool). cond b (some (own (replaced k at new s i))) (bit (own s) i)) m ∙ (true-is k s h i l).0 ∙ sym (kept i l m))
-          (sort (mark i))
+          (cases_Bool (mark i))
 
       below : (i : ℕ) → i < 16 → true? k (replaced k at new s i) ≡ true
       below i l =
           ⊎_elim
           (λ t. ap (true? k) (replaced-in k at new s i t) ∙ new_true i l t)
           (λ t. ap (true? k) (replaced-out k at new s i t) ∙ (true-is k s h i l).1)
-          (sort (at i))
+          (cases_Bool (at i))
 
 -- its words are of 16 bits, if those of the map and of the new children are
 fits-one : {w : ℕ} → w < 2 ^ 16 → Fits (w ∷ [])
@@ -86,7 +86,7 @@ fits-renew k at mark new s f h = fits-node _ (replaced k at new s) (marked-lt ma
     ⊎_elim
     (λ t. rw (replaced-in k at new s i t) (h i l t j))
     (λ t. rw (replaced-out k at new s i t) (fits-child k s i f j))
-    (sort (at i)))
+    (cases_Bool (at i)))
 
 -- ---- a change
 
@@ -120,7 +120,7 @@ module _ (c : Change) where
       ∙ ap (λ (x : Bool). cond x (frees c) (leaf? k (child k s i) q)) (within-child (cap k) (cap-pos k) a b p))
       (λ t. ap (λ (x : List ℕ). leaf? k x q) (replaced-out k at new s i t)
       ∙ ap (λ (x : Bool). cond x (frees c) (leaf? k (child k s i) q)) (sym (unvisited (cap k) (cap-pos k) a b p t)))
-      (sort (at i))
+      (cases_Bool (at i))
 
   -- a true map stays true
   pub true-change : (k : ℕ) (s : List ℕ) (a b : ℕ) → length s ≡ words k → true? k s ≡ true → true? k (change c k s a b) ≡ true

@@ -15,7 +15,7 @@ use Rattle.words.specs.Sizes.{cap, level_of}
 use Rattle.words.specs.Tree.{own, child, leaf?, free?, true?}
 use Rattle.bitmap.specs.Answer.{Said, given, refused}
 use Rattle.bitmap.specs.Calls.{answer, empty_says, check_says}
-use Rattle.words.proofs.Tests.{sort}
+use Rattle.std.proofs.lemmas.Bool.{cases_Bool}
 use Rattle.bitmap.proofs.Refusals.{given-on, refused-among, given-among}
 use Rattle.words.proofs.Truth.{some-no, true-is, is-true, live, own-none, free-leaf}
 use Rattle.words.proofs.Turns.{some-yes}
@@ -64,7 +64,7 @@ bit-some b w h = ⊎_elim
       | yes z ↦ e ∙ sym (some-no w z)
       | no ne ↦ absurd (true≢false (sym (h.1 ne) ∙ e))
     ])
-    (sort b)
+    (cases_Bool b)
 
 -- The test of a map's truth holds exactly where every summary bit is set exactly where the child's own word is not 0.
 pub true-exactly : (k : ℕ) (s : List ℕ) → (true? k s ≡ true) ↔ Truthful k s

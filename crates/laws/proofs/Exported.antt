@@ -4,7 +4,7 @@ use mathlib.Core.Path.{◌≡◌, refl, sym, ap, ◌∙◌}
 use mathlib.Core.Bool.{true≢false}
 use mathlib.Core.List.{List}
 use Prim.Native.Nat.{ℕ}
-use Rattle.bitmap.specs.declared.base.Base.TheVariants.{Any, At}
+use Rattle.std.specs.Prelude.{Some, None}
 use Rattle.bitmap.specs.Answer.{Said, given, refused}
 use Rattle.bitmap.specs.Calls.{answer, after}
 use Rattle.bitmap.specs.Contract.{Means}
@@ -63,11 +63,11 @@ looks c {r} {entry} still p = (crosses _ _ (never-zero c entry) p, sym (still �
 pub alloc-exported : Means alloc.ended alloc-reads.Post (λ κs a r e. Exported C.alloc r a.0.now e.0.now)
 alloc-exported κs a r e p = changes C.alloc a.0.now p
 
-pub alloc-contiguous-exported : Means alloc-contiguous.ended alloc-contiguous-reads.Post (λ κs a r e. Exported (C.alloc_contiguous Any a.1.0 a.1.1.0) r a.0.now e.0.now)
-alloc-contiguous-exported κs a r e p = changes (C.alloc_contiguous Any a.1.0 a.1.1.0) a.0.now p
+pub alloc-contiguous-exported : Means alloc-contiguous.ended alloc-contiguous-reads.Post (λ κs a r e. Exported (C.alloc_contiguous None a.1.0 a.1.1.0) r a.0.now e.0.now)
+alloc-contiguous-exported κs a r e p = changes (C.alloc_contiguous None a.1.0 a.1.1.0) a.0.now p
 
-pub alloc-contiguous-at-exported : Means alloc-contiguous-at.ended alloc-contiguous-at-reads.Post (λ κs a r e. Exported (C.alloc_contiguous (At a.1.0) a.1.1.0 a.1.1.1.0) r a.0.now e.0.now)
-alloc-contiguous-at-exported κs a r e p = changes (C.alloc_contiguous (At a.1.0) a.1.1.0 a.1.1.1.0) a.0.now p
+pub alloc-contiguous-at-exported : Means alloc-contiguous-at.ended alloc-contiguous-at-reads.Post (λ κs a r e. Exported (C.alloc_contiguous (Some a.1.0) a.1.1.0 a.1.1.1.0) r a.0.now e.0.now)
+alloc-contiguous-at-exported κs a r e p = changes (C.alloc_contiguous (Some a.1.0) a.1.1.0 a.1.1.1.0) a.0.now p
 
 pub next-exported : Means next.ended next-reads.Post (λ κs a r e. Exported (C.next a.1.0) r a.0.now a.0.now)
 next-exported κs a r e p = looks (C.next a.1.0) refl p

@@ -17,7 +17,8 @@ use Rattle.words.specs.Sizes.{words, cap}
 use Rattle.words.specs.Tree.{Fits, own, child, leaf?, free?, true?}
 use Rattle.change.specs.Change.{low, high, visits}
 use Rattle.change.specs.GiveBack.{first_leaf, give_back}
-use Rattle.words.proofs.Tests.{sort, and-both}
+use Rattle.std.proofs.lemmas.Bool.{cases_Bool}
+use Rattle.words.proofs.Tests.{and-both}
 use Rattle.words.proofs.Search.{first-ext}
 use Rattle.words.proofs.Levels.{cap-pos, start-aligned}
 use Rattle.words.proofs.Rows.{length-child}
@@ -95,7 +96,7 @@ not-gone k s a b q le h =
     let after = leb-false (q / cap k * cap k) p (ap (λ (x : Bool). x && leb (q / cap k * cap k) p) (sym v) ∙ h) in
     within-no a (freed_to a b p) q (omega (arith, div-add-mod' q (cap k))))
     (λ v. within-no a (freed_to a b p) q (λ w. true≢false (sym (within-yes a b q w.0 (omega (arith, t.upto, w.1))) ∙ unvisited (cap k) (cap-pos k) a b q v)))
-    (sort (visits (cap k) a b (q / cap k)))
+    (cases_Bool (visits (cap k) a b (q / cap k)))
 
 -- it frees the run up to there, and no other position
 pub leaf-give_back : (k : ℕ) (s : List ℕ) (a b q : ℕ) → length s ≡ words k → a ≤ b → b ≤ cap k → q < cap k
@@ -112,7 +113,7 @@ leaf-give_back zero s a b q len le small l =
     (λ t.
     let m = ltb-false p b t in
     rw (t, eq-eqb p b (omega (arith, f.upto))) (leaf-change Insert zero s a b q len l))
-    (sort (ltb p b))
+    (cases_Bool (ltb p b))
 leaf-give_back (suc k) s a b q len le small l =
     let i = q / cap k in
     let r = q % cap k in
@@ -135,7 +136,7 @@ leaf-give_back (suc k) s a b q len le small l =
     ∙ ap (within a (freed_to a b p)) (div-add-mod' q (cap k))))
     (λ t. ap (λ (x : List ℕ). leaf? k x r) (replaced-out k (gone k s a b) new s i t)
     ∙ ap (λ (x : Bool). cond x true (leaf? k c r)) (sym (not-gone k s a b q le t)))
-    (sort (gone k s a b i))
+    (cases_Bool (gone k s a b i))
 
 -- a true map stays true
 pub true-give_back : (k : ℕ) (s : List ℕ) (a b : ℕ) → length s ≡ words k → true? k s ≡ true → true? k (give_back k s a b) ≡ true
@@ -151,7 +152,7 @@ true-give_back (suc k) s a b len h =
 pub fits-give_back : (k : ℕ) (s : List ℕ) (a b : ℕ) → Fits s → Fits (give_back k s a b)
 unfolding give_back
 fits-give_back zero s a b f = λ i.
-    ⊎_elim (λ t. rw t (f i)) (λ t. rw t (fits-change Insert zero s a b f i)) (sort (ltb (first_leaf zero s a b) b))
+    ⊎_elim (λ t. rw t (f i)) (λ t. rw t (fits-change Insert zero s a b f i)) (cases_Bool (ltb (first_leaf zero s a b) b))
 fits-give_back (suc k) s a b f =
     fits-renew k (gone k s a b) (visits (cap k) a b) _ s f
     (λ i l _. fits-give_back k (child k s i) (low (cap k) a i) (high (cap k) b i) (fits-child k s i f))

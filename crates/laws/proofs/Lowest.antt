@@ -8,7 +8,7 @@ use Prim.Native.Nat.{ℕ, ◌+◌, ◌-◌, ◌<◌}
 use native.Mathlib.Omega.{arith}
 use lib.Dec.{leb}
 use borrow.Author.Tests.{leb-true, leb-false}
-use Rattle.words.proofs.Tests.{sort}
+use Rattle.std.proofs.lemmas.Bool.{cases_Bool}
 use Rattle.words.proofs.Search.{first-is}
 use Rattle.bitmap.specs.Answer.{given, refused}
 use Rattle.bitmap.specs.Calls.{answer}
@@ -33,7 +33,7 @@ module _ (f : Positions) (n key : ℕ) where
       let s = first-is f key (n - key) (key + (n - key)) refl in
       let m : key < n = omega (arith, s.from) in
       inr (p, rw t, record { from = s.from; upto = l; here = s.here (omega arith); lower = s.before }))
-      (sort (leb n p))
+      (cases_Bool (leb n p))
 
   -- two lowest are one
   one-lowest : (p q : ℕ) → LowestFrom f n key p → LowestFrom f n key q → p ≡ q

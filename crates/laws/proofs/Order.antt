@@ -4,7 +4,7 @@ use mathlib.Core.List.{List, [], ◌∷◌}
 use Prim.Native.Nat.{ℕ, ◌≤◌, ◌<◌}
 use native.Mathlib.Omega.{arith}
 use lib.ListN.{length}
-use Rattle.bitmap.specs.declared.base.Base.{Base}
+use Rattle.std.specs.Prelude.{Option}
 use Rattle.words.specs.Sizes.{cap, level_of}
 use Rattle.words.specs.Tree.{free?}
 use Rattle.bitmap.specs.Calls.{answer, after}
@@ -37,7 +37,7 @@ module _ (k : ℕ) (s t : List ℕ) (h : Ordered k s t) where
       }
 
   -- a request for an aligned run
-  request-order : (base : Base) (size align : ℕ)
+  request-order : (base : Option ℕ) (size align : ℕ)
       → NoHigher (call_says (alloc_contiguous base size align) k s) (call_says (alloc_contiguous base size align) k t)
   request-order base size align =
       let c = alloc_contiguous base size align in
@@ -59,22 +59,22 @@ module _ (k : ℕ) (small : k < 7) where
   -- a true map of one of the seven levels, as a store
   module _ (s : List ℕ) (h : TrueMap k s) where
     -- its word count says its level
-    level-is : (k ≡ level_of (length s)) × (k ≤ 7)
-    level-is = (level-at k h.sized small, omega arith)
+    level-is : k ≡ level_of (length s)
+    level-is = level-at k h.sized small
 
     -- a call of the store is the call of the map
     says-at : (c : Call) → answer (call_says c) s ≡ call_says c k s
-    says-at c = sym (answer-at s k level-is (omega arith) (call_says c))
+    says-at c = sym (answer-at s k level-is small (call_says c))
 
     after-is : (c : Call) → after (call_after c) s ≡ call_after c k s
-    after-is c = sym (after-at s k level-is (omega arith) (call_after c))
+    after-is c = sym (after-at s k level-is small (call_after c))
 
     -- it is a true store
     store-of : TrueStore s
     store-of = record {
-      level = rw (← level-is.0) small;
+      level = rw (← level-is) small;
       fits = h.fits;
-      truth = rw (← level-is.0) h.truth;
+      truth = rw (← level-is) h.truth;
     }
 
   -- a run on the store is the one on the map
@@ -94,7 +94,7 @@ module _ (k : ℕ) (small : k < 7) where
     first = store-of s h.first;
     second = store-of t h.second;
     size = h.first.sized ∙ sym h.second.sized;
-    inside = rw (← (level-is s h.first).0, ← (level-is t h.second).0) h.inside;
+    inside = rw (← level-is s h.first, ← level-is t h.second) h.inside;
   }
 
 -- two stores, as maps of one level

@@ -11,8 +11,7 @@ use Rattle.words.specs.Tree.{own, leaf?, free?, true?}
 use Rattle.words.specs.Take.{lowest}
 use Rattle.words.specs.Run.{next_in, run?, run_in}
 use Rattle.change.specs.GiveBack.{first_leaf}
-use Rattle.bitmap.specs.declared.base.Base.{Base}
-use Rattle.bitmap.specs.declared.base.Base.TheVariants.{Any, At}
+use Rattle.std.specs.Prelude.{Option, Some, None}
 use Rattle.bitmap.specs.Answer.{Said, given, refused, refuse, among}
 use Rattle.bitmap.specs.Calls.{answer, misplaced, found_run, ranged}
 use Rattle.bitmap.proofs.Refusals.{refused-among, given-among}
@@ -25,12 +24,12 @@ module _ (n : ℕ) where
   range-among ns a b k rest two three h =
       refused-among n ns 2 (ltb b a || ltb (cap k) b) _ two (refused-among n ns 3 (eqb a b) rest three h)
 
-  found-among : (ns : List ℕ) → among 2 ns ≡ true → among 5 ns ≡ true → (base : Base) (size align k : ℕ) (s : List ℕ)
+  found-among : (ns : List ℕ) → among 2 ns ≡ true → among 5 ns ≡ true → (base : Option ℕ) (size align k : ℕ) (s : List ℕ)
       → found_run base size align k s ≡ refused n → among n ns ≡ true
-  found-among ns two five Any size align k s =
+  found-among ns two five None size align k s =
       let b = run_in (free? k s) (cap k) size align in
       refused-among n ns 5 (leb (cap k) b) (given b) five (given-among n ns b)
-  found-among ns two five (At b) size align k s =
+  found-among ns two five (Some b) size align k s =
       refused-among n ns 2 (ltb (cap k) (b + size)) _ two
       (refused-among n ns 5 (not (run? (free? k s) (cap k) size align b)) (given b) five (given-among n ns b))
 

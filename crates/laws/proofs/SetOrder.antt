@@ -8,13 +8,13 @@ use native.Mathlib.Decide.{ℕ_discrete}
 use native.Mathlib.Omega.{arith}
 use lib.Dec.{eqb, leb, ltb}
 use borrow.Author.Tests.{leb-true, leb-false, lt-leb, not-true, not-false}
-use Rattle.bitmap.specs.declared.base.Base.{Base}
-use Rattle.bitmap.specs.declared.base.Base.TheVariants.{Any, At}
+use Rattle.std.specs.Prelude.{Option, Some, None}
 use Rattle.words.specs.Search.{all}
 use Rattle.words.specs.Bits.{within}
 use Rattle.words.specs.Run.{aligned, run?, misfit}
 use Rattle.bitmap.specs.Answer.{Said, given, refused, refuse}
-use Rattle.words.proofs.Tests.{sort, and-both}
+use Rattle.std.proofs.lemmas.Bool.{cases_Bool}
+use Rattle.words.proofs.Tests.{and-both}
 use Rattle.words.proofs.Search.{first-is, first-mono, all-at, all-is}
 use Rattle.words.proofs.Within.{within-no, within-yes}
 use Rattle.bitmap.proofs.Refusals.{given-on}
@@ -52,8 +52,8 @@ give-is n key f q =
     ⊎_elim
     (λ t. rw t)
     (λ (t : leb n key ≡ false).
-    ⊎_elim (λ (u : f key ≡ true). rw (t, u) (there u)) (λ (u : f key ≡ false). rw (t, u)) (sort (f key)))
-    (sort (leb n key))
+    ⊎_elim (λ (u : f key ≡ true). rw (t, u) (there u)) (λ (u : f key ≡ false). rw (t, u)) (cases_Bool (f key)))
+    (cases_Bool (leb n key))
   where
     there : f key ≡ true → f q ≡ with f key (key + 1) q
     there u = elim (ℕ_discrete q key) [
@@ -94,13 +94,13 @@ module _ (n : ℕ) (f g : Positions) (h : Inside n f g) where
       rw r.0 (all-is g b size (λ q l u. h q (omega arith) (all-at f b size r.1 q l u))))
 
   -- a request for an aligned run
-  pub run-order : (base : Base) (size align : ℕ)
+  pub run-order : (base : Option ℕ) (size align : ℕ)
       → NoHigher (set_says (alloc_contiguous base size align) f n) (set_says (alloc_contiguous base size align) g n)
-  run-order Any size align =
+  run-order None size align =
       refuse-same 4 (misfit n align) _ _
       (refuse-same 3 (eqb size 0) _ _
       (found-order n _ _ (first-mono (run? f n size align) (run? g n size align) 0 n (λ b _ _. run-more size align b))))
-  run-order (At b) size align =
+  run-order (Some b) size align =
       refuse-same 4 (misfit n align || not (aligned align b)) _ _
       (refuse-same 3 (eqb size 0) _ _
       (refuse-same 2 (ltb n (b + size)) _ _
@@ -139,7 +139,7 @@ module _ (n : ℕ) (f g : Positions) (h : Inside n f g) where
       let other : ¬ (q ≡ i) = λ x.
       true≢false (sym (within-yes i (i + 1) q (omega arith) (omega arith)) ∙ not-true (within i (i + 1) q) r.0) in
       rw (within-no j (j + 1) q (omega (arith, past r.1))) (h q l r.1)))
-      (sort (leb n i))
+      (cases_Bool (leb n i))
 
   -- an operation
   pub after-inside : (o : Op) → Inside n (set_after (call o) f n) (set_after (call o) g n)

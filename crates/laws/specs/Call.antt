@@ -1,13 +1,12 @@
 -- The public calls as data, by the definitions that their contracts cite. Definitions only.
-use Rattle.std.specs.Prelude.{ℕ, Bool, false, List, [], ◌∷◌, eqb}
-use Rattle.bitmap.specs.declared.base.Base.{Base}
+use Rattle.std.specs.Prelude.{ℕ, Bool, false, List, [], ◌∷◌, eqb, Option}
 use Rattle.bitmap.specs.Answer.{Said}
 use Rattle.bitmap.specs.Calls.{alloc_says, alloc_after, run_says, run_after, next_says, give_says, give_after, give_run_says, give_run_after, give_run_old_after, range_says, insert_after, remove_after, empty_says, test_says, check_says}
 
 -- a call with its numbers, in the order of the Rust
 pub data Call : Type 0 where
   alloc : Call
-  alloc_contiguous : Base → ℕ → ℕ → Call
+  alloc_contiguous : Option ℕ → ℕ → ℕ → Call
   next : ℕ → Call
   dealloc : ℕ → Call
   dealloc_contiguous : ℕ → ℕ → Call

@@ -1,6 +1,5 @@
 -- Two maps under the same operations: the operations as data, their run, and the rule between the answers of the two. Definitions only.
-use Rattle.std.specs.Prelude.{ℕ, ◌≤◌, ◌<◌, ◌≡◌, true, List, [], ◌∷◌, length}
-use Rattle.bitmap.specs.declared.base.Base.{Base}
+use Rattle.std.specs.Prelude.{ℕ, ◌≤◌, ◌<◌, ◌≡◌, true, List, [], ◌∷◌, length, Option}
 use Rattle.words.specs.Sizes.{cap}
 use Rattle.words.specs.Tree.{free?}
 use Rattle.bitmap.specs.Answer.{Said, given}
@@ -84,7 +83,7 @@ pub record RunInOrder (k : ℕ) (ops : List Op) (s t : List ℕ) : Type 0 where
   -- at the end both are true, and F of the first is within F of the second
   pub end : Ordered k (map_after k ops s) (map_after k ops t)
   -- one request for an aligned run put to both then, with or without a base, keeps the same rule
-  pub request : (base : Base) (size align : ℕ)
+  pub request : (base : Option ℕ) (size align : ℕ)
       → NoHigher (call_says (C.alloc_contiguous base size align) k (map_after k ops s))
       (call_says (C.alloc_contiguous base size align) k (map_after k ops t))
 
@@ -105,6 +104,6 @@ pub record StoresInOrder (ops : List Op) (s t : List ℕ) : Type 0 where
   pub end : StoresOrdered (store_after ops s) (store_after ops t)
   pub kept : length (store_after ops s) ≡ length s
   -- one request for an aligned run put to both then, with or without a base, keeps the same rule
-  pub request : (base : Base) (size align : ℕ)
+  pub request : (base : Option ℕ) (size align : ℕ)
       → NoHigher (answer (call_says (C.alloc_contiguous base size align)) (store_after ops s))
       (answer (call_says (C.alloc_contiguous base size align)) (store_after ops t))

@@ -1,6 +1,5 @@
 -- What each call answers and does on a plain set of free positions: a test f, among the positions 0 to n - 1. Definitions only.
-use Rattle.std.specs.Prelude.{ℕ, ◌+◌, ◌-◌, ◌%◌, max, Bool, cond, not, ◌&&◌, ◌||◌, eqb, leb, ltb}
-use Rattle.bitmap.specs.declared.base.Base.TheVariants.{Any, At}
+use Rattle.std.specs.Prelude.{ℕ, ◌+◌, ◌-◌, ◌%◌, max, Bool, cond, not, ◌&&◌, ◌||◌, eqb, leb, ltb, Some, None}
 use Rattle.words.specs.Search.{first_from}
 use Rattle.words.specs.Bits.{digit, within}
 use Rattle.words.specs.Run.{aligned, run?, misfit}
@@ -41,9 +40,9 @@ freed_up_to a b p = cond (ltb p b) (max a (p - p % 16)) b
 -- what a call says
 abbrev pub set_says : Call → Positions → ℕ → Said
 set_says alloc f n = found n (lowest_from f n 0)
-set_says (alloc_contiguous Any size align) f n =
+set_says (alloc_contiguous None size align) f n =
     refuse 4 (misfit n align) (refuse 3 (eqb size 0) (found n (first_from (run? f n size align) 0 n)))
-set_says (alloc_contiguous (At b) size align) f n =
+set_says (alloc_contiguous (Some b) size align) f n =
     refuse 4 (misfit n align || not (aligned align b))
     (refuse 3 (eqb size 0) (refuse 2 (ltb n (b + size)) (refuse 5 (not (run? f n size align b)) (given b))))
 set_says (next key) f n = found n (lowest_from f n key)

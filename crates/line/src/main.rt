@@ -2,10 +2,9 @@
 // All that is done to them is in the crate lines. What goes wrong is said on standard error, in one line, and ends the program.
 #![tactic(auto)]
 
-ghost use Rattle.std.specs.Prelude.{◌≤◌, length};
+ghost use Rattle.std.specs.Prelude.{◌<◌, ◌≤◌, length, IfSome};
 
 use bitmap::BitAlloc64K;
-use lines::Went;
 use std::io::{IsTerminal, Read};
 
 // How many bytes are read at most, and printed for them at most.
@@ -18,39 +17,26 @@ fn say(rt: &HostRuntime, text: &[u8]) {
     let _ = rt.stderr().write_all(text);
 }
 
-// The place behind the last line end of the bytes from `from` up to `to`; 0 where there is none.
-fn behind_last_end(input: &[u8], from: usize, to: usize) -> usize
-    requires { to ≤ length input.now }
-    ensures { result ≤ to }
-{
-    let mut i = to;
-    while from < i {
-        if input[i - 1] == b'\n' {
-            return i;
-        }
-        i -= 1;
-    }
-    0
+// The words that a map can have, how many of them it has, none before the first line, and the room for the answers.
+#[derive(Drop)]
+struct Session<'a> {
+    words: &'a mut [u16],
+    map: usize,
+    output: &'a mut [u8],
 }
 
-// Does a part of the input and prints its answers; answers how many words the map has then, or 0 where there is nothing more to do.
-fn do_part(
-    rt: &HostRuntime,
-    part: &[u8],
-    words: &mut [u16],
-    map: usize,
-    output: &mut [u8],
-) -> usize {
-    match lines::go_on(part, words, map, output) {
-        Went::On(count, now) => {
-            if rt.write_all(&output[..count]).is_ok() {
-                now
-            } else {
-                say(rt, b"line: the answers can't be written\n");
-                0
-            }
+impl Session<'_> {
+    // Does a part of the input and prints its answers; answers whether it goes on.
+    fn play(&mut self, rt: &HostRuntime, part: &[u8]) -> bool {
+        let Ok((count, map)) = lines::go_on(part, self.words, self.map, self.output) else {
+            return false;
+        };
+        self.map = map;
+        if rt.write_all(&self.output[..count]).is_err() {
+            say(rt, b"line: the answers can't be written\n");
+            return false;
         }
-        Went::No(_) => 0,
+        map != 0
     }
 }
 
@@ -65,53 +51,52 @@ fn say_if_cut(rt: &HostRuntime) {
     }
 }
 
-// Reads some bytes behind the first `have`, and answers how many there are then: no more where the input has ended or can't be read.
-fn more(rt: &HostRuntime, input: &mut [u8], have: usize, terminal: bool) -> usize
-    requires { have ≤ length input.old }
-    ensures { (have ≤ result) × (result ≤ length input.old) }
+// Reads some bytes and answers how many came; nothing where the input has ended or can't be read.
+fn more(rt: &HostRuntime, room: &mut [u8], terminal: bool) -> Option<usize>
+    ensures { IfSome result (λ n. (0 < n) × (n ≤ length room.old)) }
 {
     if terminal {
         say(rt, b"> ");
     }
-    match rt.stdin().read(&mut input[have..]) {
-        Ok(got) => {
+    match rt.stdin().read(room) {
+        Ok(0) => {
             // Ctrl-D stands behind the prompt: what comes next has a line of its own.
-            if terminal && got == 0 {
+            if terminal {
                 say(rt, b"\n");
             }
-            have + got
+            None
         }
+        Ok(got) => Some(got),
         Err(_) => {
             say(rt, b"line: the input can't be read\n");
-            have
+            None
         }
     }
 }
 
 // Reads until the input ends or is full. Whole lines are done as soon as they have come, and each new byte is looked at once for a line
 // end; a last line without one is done at the end.
-fn run(rt: &HostRuntime, input: &mut [u8], words: &mut [u16], output: &mut [u8]) {
+fn run(rt: &HostRuntime, input: &mut [u8], session: &mut Session<'_>) {
     let terminal = rt.stdin().is_terminal();
     let mut have = 0;
     let mut done = 0;
-    let mut map = 0;
+    // not a `for`: a turn takes in as much as one read gives
     while have < input.len() {
-        let now = more(rt, input, have, terminal);
-        if now == have {
-            do_part(rt, &input[done..have], words, map, output);
+        let Some(got) = more(rt, &mut input[have..], terminal) else {
+            session.play(rt, &input[done..have]);
             return;
-        }
-        let end = behind_last_end(input, have, now);
-        have = now;
-        if done < end {
-            map = do_part(rt, &input[done..end], words, map, output);
-            if map == 0 {
+        };
+        let last = input[have..have + got].iter().rposition(|b| *b == b'\n');
+        if let Some(last) = last {
+            let end = have + last + 1;
+            if !session.play(rt, &input[done..end]) {
                 return;
             }
             done = end;
         }
+        have += got;
     }
-    do_part(rt, &input[done..have], words, map, output);
+    session.play(rt, &input[done..have]);
     say_if_cut(rt);
 }
 
@@ -119,5 +104,10 @@ fn main(rt: HostRuntime) {
     let mut input = [0u8; READ];
     let mut words = [0u16; BitAlloc64K::WORDS];
     let mut output = [0u8; PRINTED];
-    run(&rt, &mut input, &mut words, &mut output);
+    let mut session = Session {
+        words: &mut words,
+        map: 0,
+        output: &mut output,
+    };
+    run(&rt, &mut input, &mut session);
 }

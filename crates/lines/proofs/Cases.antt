@@ -1,5 +1,5 @@
--- The laws of the table of cases: a case that opens a map, one case, and past the last. Assumes nothing.
-use mathlib.Core.Path.{◌≡◌, refl, sym, ap, ◌∙◌}
+-- The law of the table of cases: a case that opens a map comes where there is none. Assumes nothing.
+use mathlib.Core.Path.{◌≡◌, refl}
 use mathlib.Core.Bool.{Bool, true, false, cond}
 use mathlib.Core.Logic.{⊎_elim}
 use mathlib.Core.List.{List, [], ◌∷◌}
@@ -7,15 +7,13 @@ use Prim.Native.Nat.{ℕ, zero, suc, ◌≤◌}
 use native.Mathlib.Omega.{arith}
 use borrow.Author.Tests.{eqb-true, leb-false}
 use lib.Dec.{eqb, leb}
-use lib.ListN.{length, get_or, drop, get_or-eq_default}
+use lib.ListN.{length, get_or, drop}
 use Rattle.bitmap.specs.Answer.{Said, given, refused}
-use Rattle.bitmap.specs.declared.base.Base.TheVariants as B
 use Rattle.words.specs.Sizes.{words}
 use Rattle.bitmap.specs.Calls.{answer, after, alloc_says, alloc_after, run_says, run_after, next_says, give_says, give_after, give_run_says, give_run_after, give_run_old_after, range_says, insert_after, remove_after, empty_says, test_says}
-use Rattle.lines.specs.declared.table.Reply.{Reply}
-use Rattle.lines.specs.declared.table.Reply.TheVariants.{Yes, Not, No}
-use Rattle.lines.specs.Reply.{place, done, yes, replies, afters, allowed}
-use Rattle.words.proofs.Tests.{sort}
+use Rattle.std.specs.Prelude.{Some, None}
+use Rattle.lines.specs.Reply.{Reply, Yes, Not, No, place, done, yes, replies, afters, allowed}
+use Rattle.std.proofs.lemmas.Bool.{cases_Bool}
 use Rattle.lines.proofs.Replies.{Fine}
 
 -- ---- no command opens a map
@@ -58,9 +56,9 @@ module _ (a b c : ℕ) (s : List ℕ) where
   commands-fine = (
     place-fine (answer alloc_says s) (after alloc_after s) s,
     (
-      place-fine (answer (run_says B.Any a b) s) (after (run_after B.Any a b) s) s,
+      place-fine (answer (run_says None a b) s) (after (run_after None a b) s) s,
       (
-        place-fine (answer (run_says (B.At a) b c) s) (after (run_after (B.At a) b c) s) s,
+        place-fine (answer (run_says (Some a) b c) s) (after (run_after (Some a) b c) s) s,
         (
           done-fine (answer (give_says a) s) (after (give_after a) s) s,
           (
@@ -113,22 +111,5 @@ module _ (a b c : ℕ) (s : List ℕ) where
   table-fine k =
       ⊎_elim
       (λ e. fine-at (replies a b c s) (afters a b c s) s (all-fine (eqb-true (length s) 0 e)) (allowed (length s) k))
-      (λ e. rw e (⊎_elim (λ h. rw h none-fine) (λ h. rw h (later-fine k (leb-false k 4 h))) (sort (leb k 4))))
-      (sort (eqb (length s) 0))
-
-  -- one case of the table
-  pub case-at : {code : ℕ} (n : ℕ) {r : Reply} {t : List ℕ} → code ≡ n
-      → r ≡ get_or (replies a b c s) n (No 10) → t ≡ get_or (afters a b c s) n s
-      → (r ≡ get_or (replies a b c s) code (No 10)) × (t ≡ get_or (afters a b c s) code s)
-  case-at n e p q =
-      (p ∙ ap (λ (k : ℕ). get_or (replies a b c s) k (No 10)) (sym e), q ∙ ap (λ (k : ℕ). get_or (afters a b c s) k s) (sym e))
-
-  -- past the last
-  pub case-past : {code : ℕ} → 16 ≤ code → (No 10 ≡ get_or (replies a b c s) code (No 10)) × (s ≡ get_or (afters a b c s) code s)
-  unfolding replies afters
-  case-past {code} h =
-      (sym (get_or-eq_default (replies a b c s) (No 10) {n = code} h), sym (get_or-eq_default (afters a b c s) s {n = code} h))
-
--- a number that is no n is past it
-pub up : {code n : ℕ} → n ≤ code → (code ≡ n → ⊥) → suc n ≤ code
-up h d = omega arith
+      (λ e. rw e (⊎_elim (λ h. rw h none-fine) (λ h. rw h (later-fine k (leb-false k 4 h))) (cases_Bool (leb k 4))))
+      (cases_Bool (eqb (length s) 0))

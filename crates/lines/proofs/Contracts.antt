@@ -4,23 +4,18 @@ use mathlib.Core.Path.{◌≡◌, refl}
 use mathlib.Core.Bool.{Bool, true, false, cond}
 use mathlib.Core.List.{List}
 use Prim.Native.Nat.{ℕ}
-use native.Mathlib.Omega.{arith}
 use lib.ListN.{length}
-use Rattle.bitmap.specs.declared.answers.Refusal.{Refusal}
-use Rattle.bitmap.specs.declared.answers.Refusal.TheVariants.{TooShort}
+use Rattle.bitmap.specs.declared.refusal.Refusal.{Refusal}
+use Rattle.bitmap.specs.declared.refusal.Refusal.TheVariants.{TooShort}
 use Rattle.bitmap.specs.Answer.{given, refused, refuse}
 use Rattle.bitmap.specs.Contract.{Means}
 use Rattle.bitmap.proofs.Numbered.{apart}
-use Rattle.lines.specs.declared.Went.TheVariants as W
-use Rattle.lines.specs.Session.{renewed, short_on, printed_on, map_on, went_on, words_on, output_on, cut, printed, says, lines_says, words_after, output_after}
+use Rattle.std.specs.Prelude.{Ok, Err}
+use Rattle.lines.specs.Session.{Went, renewed, short_on, printed_on, map_on, went_on, words_on, output_on, cut, printed, says, lines_says, words_after, output_after}
 use Rattle.lines.specs.contracts.go_on as go_on
 use Rattle.lines.proofs.go_on.Reads as go-on-reads
 use Rattle.lines.specs.contracts.lines as lines
 use Rattle.lines.proofs.lines.Reads as lines-reads
-
--- an answer of a session that goes on is no refusal
-on-no : {at n : ℕ} {m : Refusal} → W.On at n ≡ W.No m → ⊥
-on-no e = let z : ◌≡◌ {A = ℕ} 0 1 = cc in omega arith
 
 pub lines-does : Means lines.ended lines-reads.Post (λ κs a r e.
     let input = a.0.now in
@@ -38,17 +33,17 @@ pub go-on-does : Means go_on.ended go-on-reads.Post (λ κs a r e.
 go-on-does κs a r e p = (p.0, p.1.0, p.1.1)
 
 -- `go_on` is refused with 9 or not at all, and a refusal leaves the words and the output as lent.
-pub go-on-refused : (input store : List ℕ) (n : ℕ) (output : List ℕ) (m : Refusal) → went_on input store n output ≡ W.No m
+pub go-on-refused : (input store : List ℕ) (n : ℕ) (output : List ℕ) (m : Refusal) → went_on input store n output ≡ Err m
     → (m ≡ TooShort) × (words_on input store n output ≡ store) × (output_on input store n output ≡ output)
 unfolding went_on words_on output_on
 go-on-refused input store n output m = by (short_on input store n output)
   where
-    by : (b : Bool) → cond b (W.No TooShort) (W.On (length (printed_on input store n)) (length (map_on input store n))) ≡ W.No m
+    by : (b : Bool) → cond {A = Went} b (Err TooShort) (Ok (length (printed_on input store n), length (map_on input store n))) ≡ Err m
         → (m ≡ TooShort)
         × (cond b store (renewed (map_on input store n) store) ≡ store)
         × (cond b output (renewed (printed_on input store n) output) ≡ output)
     by true e = (cc, refl, refl)
-    by false e = absurd (on-no e)
+    by false e = absurd (cc)
 
 -- `lines` is refused with 9 or not at all, and a refusal leaves the words and the output as lent.
 pub lines-refused : (input store output : List ℕ) (n : ℕ) → lines_says input store output ≡ refused n

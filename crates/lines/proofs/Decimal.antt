@@ -1,5 +1,5 @@
 -- What is printed of a number below 100,000 reads back as that number. Assumes nothing.
-use mathlib.Core.Path.{◌≡◌, refl, sym, ap, ◌∙◌}
+use mathlib.Core.Path.{◌≡◌, refl, ap, ◌∙◌}
 use mathlib.Core.Bool.{Bool, true, false, ◌&&◌}
 use mathlib.Core.Logic.{⊎_elim}
 use mathlib.Core.List.{List, [], ◌∷◌, ◌++◌}
@@ -10,7 +10,7 @@ use lib.Dec.{leb, ltb}
 use lib.ListN.{length}
 use borrow.Author.Tests.{ltb-true, ltb-false, le-leb}
 use Rattle.lines.specs.Number.{digits?, value, number_of, digits, decimal}
-use Rattle.words.proofs.Tests.{sort}
+use Rattle.std.proofs.lemmas.Bool.{cases_Bool}
 use Rattle.lines.proofs.Numbers.{tens, digits-none, digits-one, digits-more, digits-length, digits-le, number-is}
 
 value-append : (v : ℕ) (s t : List ℕ) → value v (s ++ t) ≡ value (value v s) t
@@ -60,13 +60,13 @@ written (suc k) n h = ⊎_elim
     (λ l. let e = digits-one (suc k) n (λ z. omega arith) (ltb-true n 10 l) in
     rw e (one-value 0 n ∙ omega arith, one-digit n (ltb-true n 10 l)))
     (λ l. grown k n (written k (n / 10) (tenth n (tens k) (omega arith))) (more-digits k n (ltb-false n 10 l)))
-    (sort (ltb n 10))
+    (cases_Bool (ltb n 10))
 
 some : (n : ℕ) → 1 ≤ length (decimal n)
 some n = ⊎_elim
     (λ l. omega (arith, ap length (digits-one 5 n (λ z. omega arith) (ltb-true n 10 l))))
     (λ l. omega (arith, digits-length 5 n (λ z. omega arith) (ltb-false n 10 l)))
-    (sort (ltb n 10))
+    (cases_Bool (ltb n 10))
 
 -- what is printed reads back
 pub decimal-reads : (n : ℕ) → n < 100000 → number_of (decimal n) ≡ n
@@ -74,4 +74,4 @@ unfolding tens
 decimal-reads n h =
     let w = written 5 n h in
     let l : length (decimal n) ≤ 5 = digits-le 5 n in
-    sym (number-is (decimal n) (some n) (omega arith) w.1) ∙ w.0
+    number-is (decimal n) (some n) (omega arith) w.1 ∙ w.0

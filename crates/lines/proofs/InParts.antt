@@ -9,7 +9,7 @@ use native.Mathlib.Omega.{arith}
 use lib.Dec.{eqb}
 use lib.ListN.{length, take, drop}
 use lib.Seq.{take_at}
-use Rattle.words.proofs.Tests.{sort}
+use Rattle.std.proofs.lemmas.Bool.{cases_Bool}
 use Rattle.lines.specs.Split.{on_first, pieces, trimmed, lines_of}
 use Rattle.lines.specs.Line.{line_of}
 use Rattle.lines.specs.Reply.{text, reply_to, map_after}
@@ -42,7 +42,7 @@ two-pieces (x ∷ a) b =
     ⊎_elim
     (λ e. rw e (omega (arith, two-pieces a b)))
     (λ e. rw e (omega (arith, two-pieces a b, on-first-length x (pieces 10 rest) (omega (arith, two-pieces a b)))))
-    (sort (eqb x 10))
+    (cases_Bool (eqb x 10))
 
 -- a line end in front of a text is an empty line, and another byte goes to the first line
 line-end : (x : ℕ) (s : List ℕ) → eqb x 10 ≡ true → lines_of (x ∷ s) ≡ [] ∷ lines_of s
@@ -67,7 +67,7 @@ some-line (x ∷ a) =
     ⊎_elim
     (λ e. omega (arith, ap length (line-end x (whole a) e)))
     (λ e. omega (arith, ap length (line-byte x (whole a) e (two-whole a)), on-first-length x (lines_of (whole a)) (some-line a), some-line a))
-    (sort (eqb x 10))
+    (cases_Bool (eqb x 10))
 
 -- and the lines of both texts are theirs and then those of the second
 pub lines-append : (a b : List ℕ) → lines_of (whole a ++ b) ≡ lines_of (whole a) ++ lines_of b
@@ -81,7 +81,7 @@ lines-append (x ∷ a) b =
     ∙ ap (on_first x) (lines-append a b)
     ∙ on-first-append x (lines_of (whole a)) (lines_of b) (some-line a)
     ∙ ap (λ (ls : List (List ℕ)). ls ++ lines_of b) (sym (line-byte x (whole a) e (two-whole a))))
-    (sort (eqb x 10))
+    (cases_Bool (eqb x 10))
 
 -- ---- what is printed for some lines and then for others
 

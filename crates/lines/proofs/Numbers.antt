@@ -1,17 +1,23 @@
 -- The laws of reading and writing a number, digit by digit. Assumes nothing.
-use mathlib.Core.Path.{◌≡◌, refl, sym, ap, ◌∙◌}
-use mathlib.Core.Bool.{true, false}
+use mathlib.Core.Path.{◌≡◌, refl, ap, ◌∙◌}
+use mathlib.Core.Bool.{Bool, true, false, cond, ◌&&◌}
 use mathlib.Core.Logic.{⊎_elim}
 use mathlib.Core.List.{List, [], ◌∷◌, ◌++◌}
 use Prim.Native.Nat.{ℕ, zero, suc, ◌+◌, ◌-◌, ◌*◌, ◌/◌, ◌%◌, ◌≤◌, ◌<◌}
 use native.Mathlib.Numerals.{add-one}
 use native.Mathlib.Omega.{arith}
-use lib.Dec.{ltb}
+use lib.Dec.{eqb, leb, ltb}
 use lib.ListN.{length, get_or, drop, length-append, drop_of_length-le}
 use lib.Seq.{drop-cons}
-use borrow.Author.Tests.{ltb-true, ltb-false, le-leb, lt-leb, lt-ltb, le-ltb}
+use borrow.Author.Tests.{leb-true, leb-false, ne_eqb, eqb-false, ltb-true, ltb-false, le-leb, lt-leb, lt-ltb, le-ltb}
+use Rattle.std.specs.Prelude.{Some, None}
+use Rattle.std.specs.Char.{is_ascii_digit}
+use Rattle.words.specs.Below.{below}
 use Rattle.lines.specs.Number.{none, digits?, value, number_of, digits}
-use Rattle.words.proofs.Tests.{sort, and-false}
+use Rattle.std.proofs.lemmas.Bool.{cases_Bool}
+use Rattle.words.proofs.Tests.{and-both}
+use Rattle.std.proofs.Math.Nat.{mul-le-mul_right}
+use Rattle.std.proofs.lemmas.Bool.{false≢true}
 
 -- 10 to the power i
 unfoldable pub tens : ℕ → ℕ
@@ -33,22 +39,25 @@ tens-mono zero (suc j) h = omega (arith, tens-mono zero j (omega arith))
 tens-mono (suc i) zero h = absurd (omega arith)
 tens-mono (suc i) (suc j) h = omega (arith, tens-mono i j (omega arith))
 
-pub tens-le : (i : ℕ) → i ≤ 9 → tens i ≤ 1000000000
+pub tens-le : (i : ℕ) → i ≤ 10 → tens i ≤ none
 unfolding tens
-tens-le i h = tens-mono i 9 h
+tens-le i h = tens-mono i 10 h
+
+-- a text that is not empty, and a digit
+pub some-bytes : (s : List ℕ) → eqb (length s) 0 ≡ false → 1 ≤ length s
+some-bytes s e = omega (arith, eqb-false (length s) 0 e)
+
+pub digit-le : (b : ℕ) → is_ascii_digit b ≡ true → b ≤ 57
+digit-le b e = leb-true b 57 (and-both _ _ e).1
 
 module _ (s : List ℕ) (i : ℕ) where
-  pub digits-low : i < length s → get_or s i 0 < 48 → digits? (drop i s) ≡ false
+  pub digits-not : i < length s → is_ascii_digit (get_or s i 0) ≡ false → digits? (drop i s) ≡ false
   unfolding digits?
-  digits-low l h = rw (drop-cons s i 0 l, lt-leb 48 (get_or s i 0) h)
+  digits-not l e = rw (drop-cons s i 0 l, e)
 
-  pub digits-high : i < length s → 57 < get_or s i 0 → digits? (drop i s) ≡ false
+  pub digits-on : i < length s → is_ascii_digit (get_or s i 0) ≡ true → digits? (drop i s) ≡ digits? (drop (i + 1) s)
   unfolding digits?
-  digits-high l h = rw (drop-cons s i 0 l, lt-leb (get_or s i 0) 57 h, and-false)
-
-  pub digits-on : i < length s → 48 ≤ get_or s i 0 → get_or s i 0 ≤ 57 → digits? (drop i s) ≡ digits? (drop (i + 1) s)
-  unfolding digits?
-  digits-on l h k = rw (add-one, drop-cons s i 0 l, le-leb 48 (get_or s i 0) h, le-leb (get_or s i 0) 57 k)
+  digits-on l e = rw (add-one, drop-cons s i 0 l, e)
 
   pub digits-end : length s ≤ i → digits? (drop i s) ≡ true
   unfolding digits?
@@ -62,23 +71,70 @@ module _ (s : List ℕ) (i : ℕ) where
   unfolding value
   value-end v l = rw (drop_of_length-le s l)
 
-module _ (s : List ℕ) where
-  pub number-empty : length s ≡ 0 → none ≡ number_of s
-  unfolding number_of
-  number-empty e = sym (rw (lt-leb 1 (length s) (omega arith)))
+-- no number of n digits is 10 to the power n
+value-lt : (v : ℕ) (s : List ℕ) → digits? s ≡ true → value v s < (v + 1) * tens (length s)
+unfolding value digits? tens
+value-lt v [] e = omega arith
+value-lt v (b ∷ s) e =
+    ⊎_elim
+    (λ k. let l : b ≤ 57 = leb-true b 57 (and-both _ _ k).1 in
+    let m : v * 10 + (b - 48) + 1 ≤ (v + 1) * 10 = omega arith in
+    omega (arith, value-lt (v * 10 + (b - 48)) s (rw k at e), mul-le-mul_right (tens (length s)) m))
+    (λ k. absurd (false≢true (rw k at e)))
+    (cases_Bool (leb 48 b && leb b 57))
 
-  pub number-long : 10 < length s → none ≡ number_of s
+module _ (s : List ℕ) where
+  pub number-empty : length s ≡ 0 → number_of s ≡ none
   unfolding number_of
-  number-long l = sym (rw (le-leb 1 (length s) (omega arith), lt-leb (length s) 10 l))
+  number-empty e = rw (lt-leb 1 (length s) (omega arith))
+
+  pub number-long : 10 < length s → number_of s ≡ none
+  unfolding number_of
+  number-long l = rw (le-leb 1 (length s) (omega arith), lt-leb (length s) 10 l)
 
   module _ (a : 1 ≤ length s) (b : length s ≤ 10) where
-    pub number-not : digits? s ≡ false → none ≡ number_of s
+    pub number-not : digits? s ≡ false → number_of s ≡ none
     unfolding number_of
-    number-not e = sym (rw (le-leb 1 (length s) a, le-leb (length s) 10 b, e))
+    number-not e = rw (le-leb 1 (length s) a, le-leb (length s) 10 b, e)
 
-    pub number-is : digits? s ≡ true → value 0 s ≡ number_of s
+    pub number-is : digits? s ≡ true → number_of s ≡ value 0 s
     unfolding number_of
-    number-is e = sym (rw (le-leb 1 (length s) a, le-leb (length s) 10 b, e))
+    number-is e = rw (le-leb 1 (length s) a, le-leb (length s) 10 b, e)
+
+  -- a text says a number below it, or it
+  pub number-le : number_of s ≤ none
+  unfolding number_of tens
+  number-le =
+      ⊎_elim
+      (λ k. let a = and-both (leb 1 (length s)) (leb (length s) 10 && digits? s) k in
+      let b = and-both (leb (length s) 10) (digits? s) a.1 in
+      rw k (omega (arith, value-lt 0 s b.1, tens-le (length s) (leb-true (length s) 10 b.0))))
+      (λ k. rw k (omega arith))
+      (cases_Bool (leb 1 (length s) && (leb (length s) 10 && digits? s)))
+
+-- a number read, and none
+pub is-number : {n : ℕ} (s : List ℕ) → n < none → number_of s ≡ n → Some n ≡ below none (number_of s)
+is-number {n} s l e = rw (e, lt-leb none n l)
+
+pub no-number : (s : List ℕ) → number_of s ≡ none → None ≡ below none (number_of s)
+no-number s e = rw e
+
+-- and back
+pub number-read : {n : ℕ} (s : List ℕ) → Some n ≡ below none (number_of s) → (number_of s ≡ n) × (eqb n none ≡ false)
+number-read {n} s e = by (leb none (number_of s)) refl e
+  where
+    by : (b : Bool) → leb none (number_of s) ≡ b → Some n ≡ cond b None (Some (number_of s)) → (number_of s ≡ n) × (eqb n none ≡ false)
+    by true h e = absurd (cc)
+    by false h e =
+        let q : number_of s ≡ n = cc in
+        (q, ne_eqb n none (λ z. omega (arith, leb-false none (number_of s) h)))
+
+pub number-unread : (s : List ℕ) → None ≡ below none (number_of s) → number_of s ≡ none
+number-unread s e = by (leb none (number_of s)) refl e
+  where
+    by : (b : Bool) → leb none (number_of s) ≡ b → None ≡ cond b None (Some (number_of s)) → number_of s ≡ none
+    by true h e = omega (arith, leb-true none (number_of s) h, number-le s)
+    by false h e = absurd (cc)
 
 -- ---- the digits of a number: none are asked for, a last one, and one after the others
 
@@ -110,4 +166,4 @@ digits-le (suc k) n =
     ⊎_elim
     (λ l. omega (arith, ap length (digits-one (suc k) n (λ z. omega arith) (ltb-true n 10 l))))
     (λ l. let m = rw e at (digits-length (suc k) n (λ z. omega arith) (ltb-false n 10 l)) in omega (arith, digits-le k (n / 10)))
-    (sort (ltb n 10))
+    (cases_Bool (ltb n 10))

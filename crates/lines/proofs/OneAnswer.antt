@@ -6,8 +6,8 @@ use Prim.Native.Nat.{ℕ}
 use Rattle.bitmap.specs.Answer.{number}
 use Rattle.bitmap.specs.Contract.{OneAnswer}
 use Rattle.bitmap.proofs.Numbered.{number-one, apart}
-use Rattle.lines.specs.declared.Printed.{Printed}
-use Rattle.lines.specs.declared.Printed.TheVariants.{Bytes, No}
+use Rattle.std.specs.Prelude.{Result, Ok, Err}
+use Rattle.bitmap.specs.declared.refusal.Refusal.{Refusal}
 use Rattle.lines.specs.Session.{says}
 use Rattle.lines.specs.contracts.go_on as go_on
 use Rattle.lines.proofs.go_on.Reads as go-on-reads
@@ -15,11 +15,11 @@ use Rattle.lines.specs.contracts.lines as lines
 use Rattle.lines.proofs.lines.Reads as lines-reads
 
 -- document 01's numbers tell the answers apart
-says-one : (r q : Printed) → says r ≡ says q → r ≡ q
-says-one (Bytes n) (Bytes m) e = cc
-says-one (Bytes n) (No r) e = absurd (apart n (number r) e)
-says-one (No r) (Bytes n) e = absurd (apart n (number r) (sym e))
-says-one (No r) (No q) e = ap No (number-one r q e)
+says-one : (r q : Result ℕ Refusal) → says r ≡ says q → r ≡ q
+says-one (Ok n) (Ok m) e = cc
+says-one (Ok n) (Err r) e = absurd (apart n (number r) e)
+says-one (Err r) (Ok n) e = absurd (apart n (number r) (sym e))
+says-one (Err r) (Err q) e = ap Err (number-one r q e)
 
 pub lines-once : OneAnswer lines.ended lines-reads.Post
 lines-once κs a r₁ r₂ w₁ w₂ p q = (

@@ -1,4 +1,5 @@
 -- The laws of one reply: how long its text is, and what a map that it opens makes of the words. Assumes nothing.
+use mathlib.Core.Bool.{and-false}
 use mathlib.Core.Path.{◌≡◌, refl, sym, ap, ap₂, ◌∙◌, subst}
 use mathlib.Core.Logic.{⊎_elim}
 use mathlib.Core.List.{List, [], ◌∷◌, ◌++◌}
@@ -7,16 +8,14 @@ use native.Mathlib.Omega.{arith}
 use borrow.Author.Tests.{leb-true, leb-false}
 use lib.Dec.{eqb, leb}
 use lib.ListN.{length, take, drop, get_or, replicate, length-replicate, take-append-drop}
-use lib.Seq.{drop_at, length-take-le}
+use lib.Seq.{drop_at}
 use Rattle.lines.specs.declared.read.Line.{Line}
-use Rattle.lines.specs.declared.table.Reply.{Reply}
-use Rattle.lines.specs.declared.table.Reply.TheVariants.{Map, At, Done, Yes, Not, No}
 use Rattle.lines.specs.Split.{pieces}
 use Rattle.lines.specs.Number.{decimal, digits, number_of}
-use Rattle.lines.specs.Line.{same, size_of, alone, with_one, command, command_of, line_of}
-use Rattle.lines.specs.Reply.{text, replies, afters, allowed, reply_to, opened, map_after}
+use Rattle.lines.specs.Line.{size_of, alone, with_one, command, command_of, line_of}
+use Rattle.lines.specs.Reply.{Reply, Map, At, Done, Yes, Not, No, text, replies, afters, allowed, reply_to, opened, map_after}
 use Rattle.lines.specs.Session.{most_words, renewed}
-use Rattle.words.proofs.Tests.{sort}
+use Rattle.std.proofs.lemmas.Bool.{cases_Bool}
 use Rattle.lines.proofs.Numbers.{digits-le}
 use Rattle.lines.proofs.Puts.{named-length}
 
@@ -34,14 +33,16 @@ text-le (No n) = omega (arith, named-length (110 ∷ 111 ∷ 32 ∷ []) (decimal
 
 -- a line of no byte or one is of another form
 short-code : (l : List ℕ) → length l ≤ 1 → (line_of l).code ≡ 0
-unfolding line_of size_of same pieces command_of command alone with_one number_of
+unfolding line_of size_of pieces command_of command alone with_one number_of
 short-code [] h = refl
-short-code (b ∷ []) h = ⊎_elim (λ e. rw e) (λ e. rw e) (sort (eqb b 32))
+short-code (b ∷ []) h =
+    rw (and-false (eqb b 115))
+    (⊎_elim (λ e. rw e refl) (λ e. rw e (rw (and-false (eqb b 116), and-false (eqb b 101)) refl)) (cases_Bool (eqb b 32)))
 short-code (b ∷ d ∷ l) h = absurd (omega arith)
 
 allowed-none : (n : ℕ) → allowed n 0 ≡ 0
 unfolding allowed
-allowed-none n = ⊎_elim (λ e. rw e) (λ e. rw e) (sort (eqb n 0))
+allowed-none n = ⊎_elim (λ e. rw e) (λ e. rw e) (cases_Bool (eqb n 0))
 
 short-reply : (s l : List ℕ) → length l ≤ 1 → reply_to s (line_of l) ≡ No 10
 unfolding reply_to replies
@@ -59,7 +60,7 @@ text-room s l =
     ⊎_elim
     (λ h. omega (arith, ap (λ (r : Reply). length (text r)) (short-reply s l (leb-true (length l) 1 h)), refusal-length))
     (λ h. omega (arith, text-le (reply_to s (line_of l)), leb-false (length l) 1 h))
-    (sort (leb (length l) 1))
+    (cases_Bool (leb (length l) 1))
 
 -- ---- a map that it opens
 
@@ -125,9 +126,3 @@ module _ (s : List ℕ) (l : Line) {n code : ℕ} (len : length s ≡ n) (is : c
       (subst (λ (y : List ℕ). Fine (get_or (replies l.a l.b l.c s) (allowed (length s) l.code) (No 10)) y s)
       (sym (h ∙ ap (λ (k : ℕ). get_or (afters l.a l.b l.c s) k s) number-is))
       f)
-
--- a map that stays
-pub stays : (n : ℕ) (store : List ℕ) → n ≤ length store → (n ≡ length (take n store)) × (store ≡ renewed (take n store) store)
-stays n store h =
-    let e : length (take n store) ≡ n = length-take-le n store h in
-    (sym e, sym (take-append-drop n store) ∙ ap (λ (k : ℕ). take n store ++ drop k store) (sym e))

@@ -14,15 +14,12 @@ use Rattle.words.specs.Take.{lowest}
 use Rattle.words.specs.Run.{next_in, run?, run_in}
 use Rattle.change.specs.GiveBack.{first_leaf}
 use Rattle.words.proofs.Levels.{words-cap, words-level}
-use Rattle.bitmap.specs.declared.base.Base.{Base}
-use Rattle.bitmap.specs.declared.base.Base.TheVariants as B
+use Rattle.std.specs.Prelude.{Option, Some, None}
 use Rattle.bitmap.specs.Answer.{Said, given, refused, refuse}
 use Rattle.bitmap.specs.Calls.{answer, misplaced, found_run, ranged, alloc_says, run_says, next_says, give_says, give_run_says, range_says, empty_says, test_says}
 use Rattle.lines.specs.declared.read.Line.{Line}
-use Rattle.lines.specs.declared.table.Reply.{Reply}
-use Rattle.lines.specs.declared.table.Reply.TheVariants.{Yes, Not, No}
 use Rattle.lines.specs.Number.{number_of, decimal}
-use Rattle.lines.specs.Reply.{number_in, place, done, yes, replies, allowed, reply_to}
+use Rattle.lines.specs.Reply.{Reply, Yes, Not, No, number_in, place, done, yes, replies, allowed, reply_to}
 use Rattle.lines.specs.Session.{most_words}
 use Rattle.lines.proofs.Decimal.{decimal-reads}
 
@@ -59,12 +56,12 @@ module _ (k : ℕ) (s : List ℕ) (h : cap k ≤ 65536) where
   alloc-small : Small (alloc_says k s)
   alloc-small = refuse-small 5 (eqb (own s) 0) _ (omega arith) (λ _. found-small 7 (cap k) (lowest k s) (omega arith) h)
 
-  found-run-small : (base : Base) (size align : ℕ) → Small (found_run base size align k s)
-  found-run-small B.Any size align = found-small 5 (cap k) (run_in (free? k s) (cap k) size align) (omega arith) h
-  found-run-small (B.At b) size align =
+  found-run-small : (base : Option ℕ) (size align : ℕ) → Small (found_run base size align k s)
+  found-run-small None size align = found-small 5 (cap k) (run_in (free? k s) (cap k) size align) (omega arith) h
+  found-run-small (Some b) size align =
       refuse-small 2 (ltb (cap k) (b + size)) _ (omega arith) (λ e. refuse-small 5 (not (run? (free? k s) (cap k) size align b)) (given b) (omega arith) (λ _. record { most = omega (arith, ltb-false (cap k) (b + size) e) }))
 
-  run-small : (base : Base) (size align : ℕ) → Small (run_says base size align k s)
+  run-small : (base : Option ℕ) (size align : ℕ) → Small (run_says base size align k s)
   run-small base size align =
       refuse-small 4 (misplaced base align (cap k)) _ (omega arith) (λ _. refuse-small 3 (eqb size 0) _ (omega arith) (λ _. found-run-small base size align))
 
@@ -123,8 +120,8 @@ module _ (s : List ℕ) (l : length s ≤ most_words) where
   unfolding replies Smalls words cap
   table-small a b c =
       let take = place-small _ (answer-small alloc_says (λ k h. alloc-small k s h)) in
-      let run = place-small _ (answer-small (run_says B.Any a b) (λ k h. run-small k s h B.Any a b)) in
-      let run_at = place-small _ (answer-small (run_says (B.At a) b c) (λ k h. run-small k s h (B.At a) b c)) in
+      let run = place-small _ (answer-small (run_says None a b) (λ k h. run-small k s h None a b)) in
+      let run_at = place-small _ (answer-small (run_says (Some a) b c) (λ k h. run-small k s h (Some a) b c)) in
       let free = done-small _ (answer-small (give_says a) (λ k h. give-small k s h a)) in
       let free-run = done-small _ (answer-small (give_run_says a b) (λ k h. give-run-small k s h a b)) in
       let range = done-small _ (answer-small (range_says a b) (λ k h. range-small a b k (given 0) none-small)) in

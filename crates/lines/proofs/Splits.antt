@@ -1,97 +1,80 @@
--- The laws of splitting: the first piece, the pieces after it, and the lines of a text. Assumes nothing.
-use mathlib.Core.Path.{◌≡◌, refl, sym, ap, ap₂, ◌∙◌}
+-- The laws of splitting: the first piece, the pieces behind it, and the lines of a text. Assumes nothing.
+use Rattle.std.proofs.Common.{◌≡◌, refl, sym, ap, ◌∙◌, ℕ, suc, ◌+◌, ◌-◌, ◌≤◌, ◌<◌, Bool, true, false, cond, List, [], ◌∷◌, Option, Some, None, eqb, ltb, length, take, drop, arith}
+use Rattle.std.specs.List.{position, position_or_len}
+use Rattle.std.specs.Option.{unwrap_or}
+use Rattle.std.proofs.lemmas.List.{take_all}
+use Rattle.std.proofs.lemmas.Option.{cond_some}
+use Rattle.std.proofs.Math.Numerals.{one-add}
 use mathlib.Core.Logic.{⊎_elim}
-use mathlib.Core.List.{List, [], ◌∷◌}
-use Prim.Native.Nat.{ℕ, suc, ◌+◌, ◌-◌, ◌≤◌, ◌<◌}
-use native.Mathlib.Nat.{eq-or-lt_of_le}
-use native.Mathlib.Numerals.{add-one}
-use native.Mathlib.Omega.{arith}
-use lib.Dec.{eqb}
-use lib.ListN.{length, get_or, take, drop, length-drop, drop_of_length-le}
-use lib.Seq.{drop-cons, drop-drop}
-use borrow.Author.Tests.{eq-eqb, ne_eqb}
-use Rattle.words.proofs.Tests.{sort}
-use Rattle.lines.specs.Split.{on_first, pieces, before, last_line, trimmed, lines_of}
+use borrow.Author.Tests.{ltb-true, ltb-false}
+use Rattle.std.proofs.lemmas.Bool.{cases_Bool}
+use Rattle.lines.specs.Split.{on_first, pieces, before, behind, last_line, trimmed, lines_of}
 
--- ---- the first piece
+-- ---- a search for d: its place cuts the text, and where there is none the text is one piece
 
--- its bytes are the first of the text
-before-take : (d : ℕ) (s : List ℕ) → take (length (before d s)) s ≡ before d s
-unfolding before
-before-take d [] = refl
-before-take d (b ∷ s) = ⊎_elim (λ e. rw e) (λ e. rw e (ap (λ (t : List ℕ). b ∷ t) (before-take d s))) (sort (eqb b d))
+module _ (d : ℕ) where
+  abbrev here : ℕ → Bool
+  here b = eqb b d
 
-before-le : (d : ℕ) (s : List ℕ) → length (before d s) ≤ length s
-unfolding before
-before-le d [] = omega arith
-before-le d (b ∷ s) = ⊎_elim (λ e. rw e (omega arith)) (λ e. rw e (omega (arith, before-le d s))) (sort (eqb b d))
-
--- a search for its end: at the separator, past another byte, and at the end of the text
-module _ (d : ℕ) (s : List ℕ) (i : ℕ) where
-  pub search-at : i < length s → get_or s i 0 ≡ d → length (before d (drop i s)) ≡ 0
+  before-place : (s : List ℕ) → take (position_or_len here s) s ≡ before d s
   unfolding before
-  search-at l e = rw (drop-cons s i 0 l, eq-eqb (get_or s i 0) d e)
+  before-place [] = refl
+  before-place (b ∷ s) = ⊎_elim (λ e. rw e) (λ e. rw e (rw one-add (ap (λ (t : List ℕ). b ∷ t) (before-place s)))) (cases_Bool (eqb b d))
 
-  pub search-on : i < length s → (get_or s i 0 ≡ d → ⊥) → length (before d (drop i s)) ≡ suc (length (before d (drop (i + 1) s)))
-  unfolding before
-  search-on l n = rw (add-one, drop-cons s i 0 l, ne_eqb (get_or s i 0) d n)
+  behind-place : (s : List ℕ) → position_or_len here s < length s → Some (drop (position_or_len here s + 1) s) ≡ behind d s
+  unfolding behind
+  behind-place [] l = absurd (omega arith)
+  behind-place (b ∷ s) l = ⊎_elim (λ e. rw e) (λ e. let n : 1 + position_or_len here s + 1 ≡ suc (position_or_len here s + 1) = omega arith in rw e (rw n (behind-place s (let m = rw e at l in omega arith)))) (cases_Bool (eqb b d))
 
-  pub search-end : length s ≤ i → length (before d (drop i s)) ≡ 0
-  unfolding before
-  search-end l = rw (drop_of_length-le s l)
+  behind-none : (s : List ℕ) → length s ≤ position_or_len here s → None ≡ behind d s
+  unfolding behind
+  behind-none [] l = refl
+  behind-none (b ∷ s) l = ⊎_elim (λ e. absurd (let m = rw e at l in omega arith)) (λ e. rw e (behind-none s (let m = rw e at l in omega arith))) (cases_Bool (eqb b d))
 
--- ---- the pieces after it
+  module _ (s : List ℕ) {r : Option ℕ} (is : r ≡ position here s) where
+    pub cut-some : (i : ℕ) → r ≡ Some i → (take i s ≡ before d s) × (Some (drop (i + 1) s) ≡ behind d s)
+    cut-some i e =
+        let w = cond_some (ltb (position_or_len here s) (length s)) _ _ (sym is ∙ e) in
+        (rw (← w.1) (before-place s), rw (← w.1) (behind-place s (ltb-true _ _ w.0)))
 
-pieces-more : (d : ℕ) (s : List ℕ) → length (before d s) < length s
-    → pieces d s ≡ before d s ∷ pieces d (drop (suc (length (before d s))) s)
-unfolding pieces before
-pieces-more d [] l = absurd (omega arith)
-pieces-more d (b ∷ s) l =
+    pub cut-none : r ≡ None → (s ≡ before d s) × (None ≡ behind d s)
+    cut-none e = by (ltb (position_or_len here s) (length s)) refl (sym is ∙ e)
+      where
+        by : (b : Bool) → ltb (position_or_len here s) (length s) ≡ b → cond b (Some (position_or_len here s)) None ≡ None → (s ≡ before d s) × (None ≡ behind d s)
+        by true t e = absurd (cc)
+        by false t e = (sym (take_all _ s (ltb-false _ _ t)) ∙ before-place s, behind-none s (ltb-false _ _ t))
+
+-- ---- the pieces by the first of them and what is behind it
+
+-- the pieces of what is behind a first one, where there is something
+abbrev pub pieces_of : ℕ → Option (List ℕ) → List (List ℕ)
+pieces_of d None = []
+pieces_of d (Some t) = pieces d t
+
+pub pieces-cut : (d : ℕ) (s : List ℕ) → pieces d s ≡ before d s ∷ pieces_of d (behind d s)
+unfolding pieces before behind
+pieces-cut d [] = refl
+pieces-cut d (b ∷ s) = ⊎_elim (λ e. rw e) (λ e. rw e (ap (on_first b) (pieces-cut d s))) (cases_Bool (eqb b d))
+
+pub before-all : (d : ℕ) (s : List ℕ) → None ≡ behind d s → before d s ≡ s
+unfolding before behind
+before-all d [] e = refl
+before-all d (b ∷ s) e =
     ⊎_elim
-    (λ e. rw e)
-    (λ e. rw e (ap (on_first b) (pieces-more d s (let m = rw e at l in omega arith))))
-    (sort (eqb b d))
+    (λ h. absurd (let n : None ≡ Some s = rw h at e in cc))
+    (λ h. rw h (ap (λ (t : List ℕ). b ∷ t) (before-all d s (rw h at e))))
+    (cases_Bool (eqb b d))
 
-pieces-last : (d : ℕ) (s : List ℕ) → length (before d s) ≡ length s → pieces d s ≡ before d s ∷ []
-unfolding pieces before
-pieces-last d [] l = refl
-pieces-last d (b ∷ s) l =
-    ⊎_elim
-    (λ e. absurd (let m = rw e at l in omega arith))
-    (λ e. rw e (ap (on_first b) (pieces-last d s (let m = rw e at l in omega arith))))
-    (sort (eqb b d))
+-- the first piece takes a byte more than it has, but for a last one
+pub cut-length : (d : ℕ) (s : List ℕ) → 0 < length s → 1 + (length (before d s) - 1) + length (unwrap_or (behind d s) []) ≤ length s
+unfolding before behind
+cut-length d [] l = absurd (omega arith)
+cut-length d (b ∷ []) l = ⊎_elim (λ e. rw e (omega arith)) (λ e. rw e (omega arith)) (cases_Bool (eqb b d))
+cut-length d (b ∷ x ∷ s) l = ⊎_elim (λ e. rw e (omega arith)) (λ e. rw e (omega (arith, cut-length d (x ∷ s) (omega arith)))) (cases_Bool (eqb b d))
 
 -- there is always a piece
 pub pieces-some : (d : ℕ) (s : List ℕ) → 0 < length (pieces d s)
-unfolding pieces
-pieces-some d [] = omega arith
-pieces-some d (b ∷ s) = ⊎_elim (λ e. rw e (omega arith)) (λ e. rw e (longer (pieces d s))) (sort (eqb b d))
-  where
-    longer : (ps : List (List ℕ)) → 0 < length (on_first b ps)
-    longer [] = omega arith
-    longer (p ∷ ps) = omega arith
-
--- the same in the terms of a scan that starts at `start` and stops at e
-module _ (d : ℕ) (s : List ℕ) (start e : ℕ) (is : e ≡ start + length (before d (drop start s))) where
-  piece : take (e - start) (drop start s) ≡ before d (drop start s)
-  piece =
-      let n : e - start ≡ length (before d (drop start s)) = omega arith in
-      ap (λ (k : ℕ). take k (drop start s)) n ∙ before-take d (drop start s)
-
-  rest : drop (suc (length (before d (drop start s)))) (drop start s) ≡ drop (e + 1) s
-  rest =
-      let n : start + suc (length (before d (drop start s))) ≡ e + 1 = omega arith in
-      drop-drop (suc (length (before d (drop start s)))) start s ∙ ap (λ (k : ℕ). drop k s) n
-
-  pub field-more : start ≤ length s → e < length s → pieces d (drop start s) ≡ take (e - start) (drop start s) ∷ pieces d (drop (e + 1) s)
-  field-more f l =
-      pieces-more d (drop start s) (omega (arith, length-drop start s))
-      ∙ ap₂ (λ (p t : List ℕ). p ∷ pieces d t) (sym piece) rest
-
-  pub field-last : start ≤ length s → e ≡ length s → pieces d (drop start s) ≡ take (e - start) (drop start s) ∷ []
-  field-last f l =
-      pieces-last d (drop start s) (omega (arith, length-drop start s))
-      ∙ ap (λ (p : List ℕ). p ∷ []) (sym piece)
+pieces-some d s = omega (arith, ap length (pieces-cut d s))
 
 -- ---- lines
 
@@ -108,26 +91,11 @@ last-some : (p : List ℕ) → 0 < length p → last_line p ≡ p ∷ []
 last-some [] l = absurd (omega arith)
 last-some (b ∷ p) l = refl
 
-line-last : (s : List ℕ) → 0 < length s → length (before 10 s) ≡ length s → lines_of s ≡ before 10 s ∷ lines_of (drop (suc (length (before 10 s))) s)
+-- the first line and those behind it
+pub lines-cut : (s : List ℕ) → 0 < length s → lines_of s ≡ before 10 s ∷ lines_of (unwrap_or (behind 10 s) [])
 unfolding lines_of trimmed
-line-last s h e =
-    ap trimmed (pieces-last 10 s e)
-    ∙ last-some (before 10 s) (omega arith)
-    ∙ ap (λ (ls : List (List ℕ)). before 10 s ∷ ls) (sym (ap lines_of (drop_of_length-le s {i = suc (length (before 10 s))} (omega arith)) ∙ lines-nil))
-
-line-more : (s : List ℕ) → length (before 10 s) < length s → lines_of s ≡ before 10 s ∷ lines_of (drop (suc (length (before 10 s))) s)
-unfolding lines_of
-line-more s l =
-    ap trimmed (pieces-more 10 s l)
-    ∙ trimmed-more (before 10 s) (pieces 10 (drop (suc (length (before 10 s))) s)) (pieces-some 10 (drop (suc (length (before 10 s))) s))
-
--- the first line and those after its line end; a line that ends where the text ends is the last
-lines-cons : (s : List ℕ) → 0 < length s → lines_of s ≡ before 10 s ∷ lines_of (drop (suc (length (before 10 s))) s)
-lines-cons s h = ⊎_elim (line-last s h) (line-more s) (eq-or-lt_of_le (before-le 10 s))
-
--- the same in the terms of a scan
-pub lines-from : (s : List ℕ) (start e : ℕ) → e ≡ start + length (before 10 (drop start s)) → start < length s
-    → lines_of (drop start s) ≡ take (e - start) (drop start s) ∷ lines_of (drop (e + 1) s)
-lines-from s start e is l =
-    lines-cons (drop start s) (omega (arith, length-drop start s))
-    ∙ ap₂ (λ (p t : List ℕ). p ∷ lines_of t) (sym (piece 10 s start e is)) (rest 10 s start e is)
+lines-cut s h = ap trimmed (pieces-cut 10 s) ∙ by (behind 10 s) refl
+  where
+    by : (o : Option (List ℕ)) → o ≡ behind 10 s → trimmed (before 10 s ∷ pieces_of 10 o) ≡ before 10 s ∷ trimmed (pieces 10 (unwrap_or o []))
+    by None e = last-some (before 10 s) (omega (arith, ap length (before-all 10 s e))) ∙ ap (λ (ls : List (List ℕ)). before 10 s ∷ ls) (sym lines-nil)
+    by (Some t) e = trimmed-more (before 10 s) (pieces 10 t) (pieces-some 10 t)

@@ -1,14 +1,32 @@
 -- What a line is answered, and the bytes printed. Definitions only.
-use Rattle.std.specs.Prelude.{ℕ, cond, List, [], ◌∷◌, ◌++◌, eqb, leb, length, get_or, replicate}
-use Rattle.bitmap.specs.declared.base.Base.TheVariants as B
-use Rattle.bitmap.specs.Answer.{Said, given, refused}
+use Rattle.std.specs.Prelude.{ℕ, cond, List, [], ◌∷◌, ◌++◌, eqb, leb, length, get_or, replicate, Result, Ok, Err, Some, None}
+use Rattle.bitmap.specs.declared.refusal.Refusal.{Refusal}
+use Rattle.bitmap.specs.Answer.{Said, given, refused, number}
 use Rattle.words.specs.Sizes.{words, cap}
 use Rattle.bitmap.specs.Calls.{answer, after, alloc_says, alloc_after, run_says, run_after, next_says, give_says, give_after, give_run_says, give_run_after, give_run_old_after, range_says, insert_after, remove_after, empty_says, test_says}
 use Rattle.lines.specs.declared.read.Line.{Line}
-use Rattle.lines.specs.declared.table.Reply.{Reply}
-use Rattle.lines.specs.declared.table.Reply.TheVariants.{Map, At, Done, Yes, Not, No}
+use Rattle.lines.specs.declared.table.Reply as table
+use Rattle.lines.specs.declared.table.Reply.TheVariants as T
 use Rattle.lines.specs.Text.{map_text, at_text, ok_text, yes_text, not_text, no_text, line_end}
 use Rattle.lines.specs.Number.{decimal}
+
+-- what a line is answered: a map of so many positions and words, a position, done, yes, not, or a refusal's number
+pub data Reply : Type 0 where
+  Map : ℕ → ℕ → Reply
+  At : ℕ → Reply
+  Done : Reply
+  Yes : Reply
+  Not : Reply
+  No : ℕ → Reply
+
+-- the same of what the table answers
+abbrev pub replied : Result table.Reply Refusal → Reply
+replied (Ok (T.Map n w)) = Map n w
+replied (Ok (T.At p)) = At p
+replied (Ok T.Done) = Done
+replied (Ok T.Yes) = Yes
+replied (Ok T.Not) = Not
+replied (Err r) = No (number r)
 
 -- what is printed of a reply
 unfoldable pub text : Reply → List ℕ
@@ -50,8 +68,8 @@ replies a b c s =
     ∷ Map (cap 2) (words 2)
     ∷ Map (cap 3) (words 3)
     ∷ place (answer alloc_says s)
-    ∷ place (answer (run_says B.Any a b) s)
-    ∷ place (answer (run_says (B.At a) b c) s)
+    ∷ place (answer (run_says None a b) s)
+    ∷ place (answer (run_says (Some a) b c) s)
     ∷ done (answer (give_says a) s)
     ∷ done (answer (give_run_says a b) s)
     ∷ done (answer (give_run_says a b) s)
@@ -71,8 +89,8 @@ afters a b c s =
     ∷ s
     ∷ s
     ∷ after alloc_after s
-    ∷ after (run_after B.Any a b) s
-    ∷ after (run_after (B.At a) b c) s
+    ∷ after (run_after None a b) s
+    ∷ after (run_after (Some a) b c) s
     ∷ after (give_after a) s
     ∷ after (give_run_after a b) s
     ∷ after (give_run_old_after a b) s

@@ -1,14 +1,11 @@
 -- What is printed for lines, and the words afterwards: of a part of an input, which goes on with the map there is, and of a whole one.
 -- Definitions only.
-use Rattle.std.specs.Prelude.{◌≡◌, ℕ, ◌+◌, ◌*◌, ◌≤◌, Bool, cond, ◌||◌, List, [], ◌∷◌, ◌++◌, eqb, ltb, length, take, drop}
+use Rattle.std.specs.Prelude.{◌≡◌, ℕ, ◌+◌, ◌*◌, ◌≤◌, Bool, cond, ◌||◌, List, [], ◌∷◌, ◌++◌, eqb, ltb, length, take, drop, Result, Ok, Err}
 use Rattle.std.proofs.lemmas.List.Edits.{sets}
-use Rattle.bitmap.specs.declared.answers.Refusal.TheVariants.{TooShort}
-use Rattle.bitmap.specs.Answer.{Said, given, refused, refuse, number}
+use Rattle.bitmap.specs.declared.refusal.Refusal.{Refusal}
+use Rattle.bitmap.specs.declared.refusal.Refusal.TheVariants.{TooShort}
+use Rattle.bitmap.specs.Answer.{Said, given, taken, refuse}
 use Rattle.words.specs.Sizes.{words}
-use Rattle.lines.specs.declared.Printed.{Printed}
-use Rattle.lines.specs.declared.Printed.TheVariants as P
-use Rattle.lines.specs.declared.Went.{Went}
-use Rattle.lines.specs.declared.Went.TheVariants as W
 use Rattle.lines.specs.Split.{lines_of}
 use Rattle.lines.specs.Line.{line_of}
 use Rattle.lines.specs.Reply.{text, reply_to, map_after}
@@ -64,10 +61,14 @@ map_on input store n = map_in (take n store) (lines_of input)
 abbrev pub short_on : List ℕ → List ℕ → ℕ → List ℕ → Bool
 short_on input store n output = ltb (length store) most_words || (ltb (length store) n || ltb (length output) (6 * length input))
 
--- what the call answers: how many bytes it printed and how many words the map has then, or refusal 9
+-- what a call answers: how many bytes it printed and how many words the map has then, or a refusal
+abbrev pub Went : Type 0
+Went = Result (ℕ × ℕ) Refusal
+
+-- what this one answers, or refusal 9
 unfoldable pub went_on : List ℕ → List ℕ → ℕ → List ℕ → Went
 went_on input store n output =
-    cond (short_on input store n output) (W.No TooShort) (W.On (length (printed_on input store n)) (length (map_on input store n)))
+    cond (short_on input store n output) (Err TooShort) (Ok (length (printed_on input store n), length (map_on input store n)))
 
 -- the words and the output afterwards
 unfoldable pub words_on : List ℕ → List ℕ → ℕ → List ℕ → List ℕ
@@ -106,9 +107,8 @@ abbrev pub printed : List ℕ → List ℕ
 printed input = shown [] (lines_of (cut input))
 
 -- what a call says: how many bytes it printed, or a refusal's number
-abbrev pub says : Printed → Said
-says (P.Bytes n) = given n
-says (P.No r) = refused (number r)
+abbrev pub says : Result ℕ Refusal → Said
+says = taken
 
 unfoldable pub lines_says : List ℕ → List ℕ → List ℕ → Said
 lines_says input store output = refuse 9 (short_on (cut input) store 0 output) (given (length (printed input)))

@@ -1,5 +1,5 @@
 -- A text split at a separator byte: at 10 into lines, at 32 into fields. Definitions only.
-use Rattle.std.specs.Prelude.{ℕ, cond, List, [], ◌∷◌, eqb}
+use Rattle.std.specs.Prelude.{ℕ, cond, List, [], ◌∷◌, eqb, Option, Some, None}
 
 -- the byte b in front of the first piece
 abbrev pub on_first : ℕ → List (List ℕ) → List (List ℕ)
@@ -15,6 +15,11 @@ pieces d (b ∷ s) = cond (eqb b d) ([] ∷ pieces d s) (on_first b (pieces d s)
 unfoldable pub before : ℕ → List ℕ → List ℕ
 before d [] = []
 before d (b ∷ s) = cond (eqb b d) [] (b ∷ before d s)
+
+-- the bytes behind the first d, where there is one
+unfoldable pub behind : ℕ → List ℕ → Option (List ℕ)
+behind d [] = None
+behind d (b ∷ s) = cond (eqb b d) (Some s) (behind d s)
 
 -- a last piece is a line unless it is empty
 abbrev pub last_line : List ℕ → List (List ℕ)

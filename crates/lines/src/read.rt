@@ -1,8 +1,9 @@
 // Reading a line: the number of its command and its arguments.
-ghost use Rattle.std.specs.Prelude.{◌≡◌, ◌+◌, ◌≤◌, length, drop};
-ghost use Rattle.lines.specs.Split.{before};
-ghost use Rattle.lines.specs.Number.{number_of};
-ghost use Rattle.lines.specs.Line.{same, size_of, alone, with_one, with_two, with_three, command, line_of};
+ghost use Rattle.std.specs.Prelude.{◌≡◌, option_map, unwrap_or};
+ghost use Rattle.lines.specs.Split.{before, behind};
+ghost use Rattle.lines.specs.Number.{none, number_of};
+ghost use Rattle.lines.specs.Line.{code_of, other, line_of};
+ghost use Rattle.words.specs.Below.{below};
 
 // A line read. The code is 1 to 4 for `size 1` to `size 4`, 5 to 15 for the eleven commands, 0 for a line of another form.
 #[derive(Clone, Copy)]
@@ -13,211 +14,105 @@ pub struct Line {
     pub c: usize,
 }
 
-// What no number of ten digits is.
-const NONE: usize = 10000000000;
-
-// Where the first d from `from` on is; the end of s where there is none.
-pub fn find(s: &[u8], from: usize, d: u8) -> usize
-    requires { from ≤ length s.now }
-    ensures { (result ≡ from + length (before d (drop from s.now))) × (from ≤ result) × (result ≤ length s.now) }
-{
-    let mut i = from;
-    while i < s.len() {
-        if s[i] == d {
-            return i;
-        }
-        i += 1;
+impl Line {
+    fn new(code: usize, a: usize, b: usize, c: usize) -> Self
+        ensures { result ≡ record { code = code; a = a; b = b; c = c } }
+    {
+        Line { code, a, b, c }
     }
-    i
 }
 
-// Whether two texts are the same.
-fn is(s: &[u8], t: &[u8]) -> bool
-    ensures { result ≡ same s.now t.now }
+// What is before the first d, and what is behind it, where there is one.
+pub fn cut(s: &[u8], d: u8) -> (&[u8], Option<&[u8]>)
+    ensures first { result.0.now ≡ before d s.now }
+    ensures rest { option_map (λ t. t.now) result.1 ≡ behind d s.now }
 {
-    if s.len() != t.len() {
-        return false;
+    match s.iter().position(|b| *b == d) {
+        Some(i) => (&s[..i], Some(&s[i + 1..])),
+        None => (s, None),
     }
-    let mut i = 0;
-    while i < s.len() {
-        if s[i] != t[i] {
-            return false;
-        }
-        i += 1;
-    }
-    true
 }
 
-// The value of 1 to 10 digits; NONE of any other text.
-fn number(s: &[u8]) -> usize
-    ensures { result ≡ number_of s.now }
+// The value of 1 to 10 digits.
+fn number(s: &[u8]) -> Option<usize>
+    ensures { result ≡ below none (number_of s.now) }
 {
-    if s.len() == 0 {
-        return NONE;
+    if s.is_empty() {
+        return None;
     }
     if 10 < s.len() {
-        return NONE;
+        return None;
     }
     let mut v = 0;
-    let mut i = 0;
-    while i < s.len() {
-        let b = s[i];
-        if b < b'0' {
-            return NONE;
+    for b in s {
+        if !b.is_ascii_digit() {
+            return None;
         }
-        if b'9' < b {
-            return NONE;
-        }
-        v = v * 10 + (b - b'0') as usize;
-        i += 1;
+        v = v * 10 + (*b - b'0') as usize;
     }
-    v
+    Some(v)
 }
 
-// The size that a line says, 0 where it says none.
-fn size_of(s: &[u8]) -> usize
-    ensures { result ≡ size_of s.now }
+// The forms of a line: a text, how many numbers follow it, and the code.
+const FORMS: [(&[u8], usize, usize); 15] = [
+    (b"size 1", 0, 1),
+    (b"size 2", 0, 2),
+    (b"size 3", 0, 3),
+    (b"size 4", 0, 4),
+    (b"take", 0, 5),
+    (b"run", 2, 6),
+    (b"runat", 3, 7),
+    (b"free", 1, 8),
+    (b"freerun", 2, 9),
+    (b"freerunold", 2, 10),
+    (b"insert", 2, 11),
+    (b"remove", 2, 12),
+    (b"next", 1, 13),
+    (b"test", 1, 14),
+    (b"empty", 0, 15),
+];
+
+// The code of a text that so many numbers follow. It is 0 where there is none: the table of cases refuses it by that number, as document 01
+// says ("a range for everything refused").
+fn code_of(text: &[u8], numbers: usize) -> usize
+    ensures { result ≡ code_of text.now numbers }
 {
-    if is(s, b"size 1") {
-        return 1;
-    }
-    if is(s, b"size 2") {
-        return 2;
-    }
-    if is(s, b"size 3") {
-        return 3;
-    }
-    if is(s, b"size 4") {
-        return 4;
-    }
-    0
+    FORMS
+        .iter()
+        .find(|f| f.1 == numbers && text == f.0)
+        .map_or(0, |f| f.2)
 }
 
-// The number of a command by its name and by how many numbers follow, 0 where there is none.
-fn alone(s: &[u8]) -> usize
-    ensures { result ≡ alone s.now }
+// The command that a line says: a whole text with no number, or a name and the numbers behind it.
+fn command(s: &[u8]) -> Option<Line>
+    ensures { unwrap_or result other ≡ line_of s.now }
 {
-    if is(s, b"take") {
-        return 5;
+    let code = code_of(s, 0);
+    if code != 0 {
+        return Some(Line::new(code, 0, 0, 0));
     }
-    if is(s, b"empty") {
-        return 15;
+    let (name, rest) = cut(s, b' ');
+    let (a, rest) = cut(rest?, b' ');
+    let a = number(a)?;
+    let Some(rest) = rest else {
+        return Some(Line::new(code_of(name, 1), a, 0, 0));
+    };
+    let (b, rest) = cut(rest, b' ');
+    let b = number(b)?;
+    let Some(rest) = rest else {
+        return Some(Line::new(code_of(name, 2), a, b, 0));
+    };
+    let (c, rest) = cut(rest, b' ');
+    let c = number(c)?;
+    match rest {
+        None => Some(Line::new(code_of(name, 3), a, b, c)),
+        Some(_) => None,
     }
-    0
 }
 
-fn with_one(s: &[u8]) -> usize
-    ensures { result ≡ with_one s.now }
-{
-    if is(s, b"free") {
-        return 8;
-    }
-    if is(s, b"next") {
-        return 13;
-    }
-    if is(s, b"test") {
-        return 14;
-    }
-    0
-}
-
-fn with_two(s: &[u8]) -> usize
-    ensures { result ≡ with_two s.now }
-{
-    if is(s, b"run") {
-        return 6;
-    }
-    if is(s, b"freerun") {
-        return 9;
-    }
-    if is(s, b"freerunold") {
-        return 10;
-    }
-    if is(s, b"insert") {
-        return 11;
-    }
-    if is(s, b"remove") {
-        return 12;
-    }
-    0
-}
-
-fn with_three(s: &[u8]) -> usize
-    ensures { result ≡ with_three s.now }
-{
-    if is(s, b"runat") {
-        return 7;
-    }
-    0
-}
-
-// A command with its numbers; a line of another form where one of them is NONE.
-fn command(code: usize, a: usize, b: usize, c: usize) -> Line
-    ensures { result ≡ command code a b c }
-{
-    if a == NONE {
-        return Line {
-            code: 0,
-            a: 0,
-            b: 0,
-            c: 0,
-        };
-    }
-    if b == NONE {
-        return Line {
-            code: 0,
-            a: 0,
-            b: 0,
-            c: 0,
-        };
-    }
-    if c == NONE {
-        return Line {
-            code: 0,
-            a: 0,
-            b: 0,
-            c: 0,
-        };
-    }
-    Line { code, a, b, c }
-}
-
-// Reads a line, field by field.
+// Reads a line.
 pub fn read_line(s: &[u8]) -> Line
     ensures { result ≡ line_of s.now }
 {
-    let n = s.len();
-    let size = size_of(s);
-    if size != 0 {
-        return command(size, 0, 0, 0);
-    }
-    let end = find(s, 0, b' ');
-    let name = &s[..end];
-    if end == n {
-        return command(alone(name), 0, 0, 0);
-    }
-    let start = end + 1;
-    let end1 = find(s, start, b' ');
-    let a = number(&s[start..end1]);
-    if end1 == n {
-        return command(with_one(name), a, 0, 0);
-    }
-    let start = end1 + 1;
-    let end2 = find(s, start, b' ');
-    let b = number(&s[start..end2]);
-    if end2 == n {
-        return command(with_two(name), a, b, 0);
-    }
-    let start = end2 + 1;
-    let end3 = find(s, start, b' ');
-    let c = number(&s[start..end3]);
-    if end3 == n {
-        return command(with_three(name), a, b, c);
-    }
-    Line {
-        code: 0,
-        a: 0,
-        b: 0,
-        c: 0,
-    }
+    command(s).unwrap_or(Line::new(0, 0, 0, 0))
 }

@@ -1,11 +1,12 @@
 // The table of cases: what each command is answered, on the words of a map.
-ghost use Rattle.std.specs.Prelude.{◌≡◌, get_or};
-ghost use Rattle.bitmap.specs.Answer.{taken, changed, told};
-ghost use Rattle.lines.specs.Reply.{place, done, yes, replies, afters, allowed};
+ghost use Rattle.std.specs.Prelude.{◌≡◌, cond, get_or};
+ghost use Rattle.lines.specs.declared.table.Reply.TheVariants.{Yes, Not};
+ghost use Rattle.lines.specs.Reply.{No, replied, replies, afters, allowed};
 
-use bitmap::{Base, BitAlloc4K, BitAlloc16, BitAlloc64K, BitAlloc256, Changed, Taken, Told};
+use crate::read::Line;
+use bitmap::{BitAlloc4K, BitAlloc16, BitAlloc64K, BitAlloc256, Refusal};
 
-// What a line is answered: a map of so many positions and words, a position, done, yes, not, or a refusal's number.
+// What a line is answered: a map of so many positions and words, a position, done, yes or not.
 #[derive(Clone, Copy)]
 pub enum Reply {
     Map(usize, usize),
@@ -13,41 +14,19 @@ pub enum Reply {
     Done,
     Yes,
     Not,
-    No(usize),
-}
-
-// The reply of a take or a look-up.
-fn place(t: Taken) -> Reply
-    ensures { result ≡ place (taken t) }
-{
-    match t {
-        Taken::At(p) => Reply::At(p),
-        Taken::No(r) => Reply::No(bitmap::number(r)),
-    }
-}
-
-// The reply of another change.
-fn done(t: Changed) -> Reply
-    ensures { result ≡ done (changed t) }
-{
-    match t {
-        Changed::Done => Reply::Done,
-        Changed::No(r) => Reply::No(bitmap::number(r)),
-    }
 }
 
 // The reply of a test.
-fn yes(t: Told) -> Reply
-    ensures { result ≡ yes (told t) }
-{
-    match t {
-        Told::Yes => Reply::Yes,
-        Told::Not => Reply::Not,
-        Told::No(r) => Reply::No(bitmap::number(r)),
+impl From<bool> for Reply {
+    ghost from_gives = { λ b r. r ≡ cond b Yes Not };
+
+    fn from(b: bool) -> Self {
+        if b { Reply::Yes } else { Reply::Not }
     }
 }
 
 // The number in the table where the map has n words: a size opens a map where there is none, any other command needs one.
+#[tactic(auto, unfolding(crate::specs::Reply::allowed))]
 pub fn allowed(n: usize, code: usize) -> usize
     ensures { result ≡ allowed n code }
 {
@@ -59,26 +38,27 @@ pub fn allowed(n: usize, code: usize) -> usize
 }
 
 // The table: 1 to 4 are the sizes, 5 to 15 the commands, and everything else is refused.
-pub fn answer(code: usize, a: usize, b: usize, c: usize, map: &mut [u16]) -> Reply
-    ensures value { result ≡ get_or (replies a b c map.old) code (Reply.No 10) }
-    ensures map_after { map.new ≡ get_or (afters a b c map.old) code map.old }
+#[tactic(auto, unfolding(crate::specs::Reply::replies, crate::specs::Reply::afters, words::specs::Sizes::cap, words::specs::Sizes::words))]
+pub fn answer(code: usize, l: Line, map: &mut [u16]) -> Result<Reply, Refusal>
+    ensures value { replied result ≡ get_or (replies l.a l.b l.c map.old) code (No 10) }
+    ensures map_after { map.new ≡ get_or (afters l.a l.b l.c map.old) code map.old }
 {
     match code {
-        1 => Reply::Map(BitAlloc16::CAP, BitAlloc16::WORDS),
-        2 => Reply::Map(BitAlloc256::CAP, BitAlloc256::WORDS),
-        3 => Reply::Map(BitAlloc4K::CAP, BitAlloc4K::WORDS),
-        4 => Reply::Map(BitAlloc64K::CAP, BitAlloc64K::WORDS),
-        5 => place(bitmap::alloc(map)),
-        6 => place(bitmap::alloc_contiguous(map, Base::Any, a, b)),
-        7 => place(bitmap::alloc_contiguous(map, Base::At(a), b, c)),
-        8 => done(bitmap::dealloc(map, a)),
-        9 => done(bitmap::dealloc_contiguous(map, a, b)),
-        10 => done(bitmap::dealloc_contiguous_old(map, a, b)),
-        11 => done(bitmap::insert(map, a, b)),
-        12 => done(bitmap::remove(map, a, b)),
-        13 => place(bitmap::next(map, a)),
-        14 => yes(bitmap::test(map, a)),
-        15 => yes(bitmap::is_empty(map)),
-        0 | 16.. => Reply::No(10),
+        1 => Ok(Reply::Map(BitAlloc16::CAP, BitAlloc16::WORDS)),
+        2 => Ok(Reply::Map(BitAlloc256::CAP, BitAlloc256::WORDS)),
+        3 => Ok(Reply::Map(BitAlloc4K::CAP, BitAlloc4K::WORDS)),
+        4 => Ok(Reply::Map(BitAlloc64K::CAP, BitAlloc64K::WORDS)),
+        5 => bitmap::alloc(map).map(Reply::At),
+        6 => bitmap::alloc_contiguous(map, None, l.a, l.b).map(Reply::At),
+        7 => bitmap::alloc_contiguous(map, Some(l.a), l.b, l.c).map(Reply::At),
+        8 => bitmap::dealloc(map, l.a).map(|()| Reply::Done),
+        9 => bitmap::dealloc_contiguous(map, l.a, l.b).map(|()| Reply::Done),
+        10 => bitmap::dealloc_contiguous_old(map, l.a, l.b).map(|()| Reply::Done),
+        11 => bitmap::insert(map, l.a, l.b).map(|()| Reply::Done),
+        12 => bitmap::remove(map, l.a, l.b).map(|()| Reply::Done),
+        13 => bitmap::next(map, l.a).map(Reply::At),
+        14 => bitmap::test(map, l.a).map(Reply::from),
+        15 => bitmap::is_empty(map).map(Reply::from),
+        0 | 16.. => Err(Refusal::BadLine),
     }
 }

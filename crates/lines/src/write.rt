@@ -1,67 +1,67 @@
-// Writing into the lent output: each function writes from `at` on and answers the next place.
-ghost use Rattle.std.specs.Prelude.{◌≡◌, [], ◌∷◌, ◌++◌, ◌+◌, ◌≤◌, length};
-ghost use Rattle.std.proofs.lemmas.List.Edits.{sets};
+// Writing into the lent output: each function writes from the front of it on and answers how many bytes it wrote.
+ghost use Rattle.std.specs.Prelude.{◌≡◌, [], ◌∷◌, ◌++◌, ◌≤◌, length};
 ghost use Rattle.lines.specs.Number.{digits, decimal};
-ghost use Rattle.lines.specs.Reply.{text};
+ghost use Rattle.lines.specs.Reply.{replied, text};
+ghost use Rattle.lines.specs.Session.{renewed};
 
 use crate::table::Reply;
+use bitmap::Refusal;
 
 // The bytes of t.
-fn put_text(out: &mut [u8], at: usize, t: &[u8]) -> usize
-    requires { at + length t.now ≤ length out.old }
-    ensures value { result ≡ at + length t.now }
-    ensures out_after { out.new ≡ sets out.old at t.now }
+fn put_text(out: &mut [u8], t: &[u8]) -> usize
+    requires { length t.now ≤ length out.old }
+    ensures value { result ≡ length t.now }
+    ensures out_after { out.new ≡ renewed t.now out.old }
 {
-    let mut i = 0;
-    while i < t.len() {
-        out[at + i] = t[i];
-        i += 1;
-    }
-    at + i
+    let n = t.len();
+    out[..n].copy_from_slice(t);
+    n
 }
 
-// The last k digits of n, with no 0 in front.
-fn put_digits(out: &mut [u8], at: usize, k: usize, n: usize) -> usize
-    requires { at + length (digits k n) ≤ length out.old }
-    ensures value { result ≡ at + length (digits k n) }
-    ensures out_after { out.new ≡ sets out.old at (digits k n) }
+// The last k digits of n, with no 0 in front. By hand: std's writer into a slice promises no byte of what it wrote.
+fn put_digits(out: &mut [u8], k: usize, n: usize) -> usize
+    requires { length (digits k n) ≤ length out.old }
+    ensures value { result ≡ length (digits k n) }
+    ensures out_after { out.new ≡ renewed (digits k n) out.old }
 {
     if k == 0 {
-        return at;
+        return 0;
     }
     if n < 10 {
-        out[at] = b'0' + n as u8;
-        return at + 1;
+        out[0] = b'0' + n as u8;
+        return 1;
     }
-    let next = put_digits(out, at, k - 1, n / 10);
-    out[next] = b'0' + (n % 10) as u8;
-    next + 1
+    let count = put_digits(out, k - 1, n / 10);
+    out[count] = b'0' + (n % 10) as u8;
+    count + 1
 }
 
 // A name, a number and the line end.
-fn put_named(out: &mut [u8], at: usize, name: &[u8], n: usize) -> usize
-    requires { at + length (name.now ++ (decimal n ++ (10 ∷ []))) ≤ length out.old }
-    ensures value { result ≡ at + length (name.now ++ (decimal n ++ (10 ∷ []))) }
-    ensures out_after { out.new ≡ sets out.old at (name.now ++ (decimal n ++ (10 ∷ []))) }
+fn put_named(out: &mut [u8], name: &[u8], n: usize) -> usize
+    requires { length (name.now ++ (decimal n ++ (10 ∷ []))) ≤ length out.old }
+    ensures value { result ≡ length (name.now ++ (decimal n ++ (10 ∷ []))) }
+    ensures out_after { out.new ≡ renewed (name.now ++ (decimal n ++ (10 ∷ []))) out.old }
 {
-    let next = put_text(out, at, name);
-    let last = put_digits(out, next, 5, n);
-    out[last] = b'\n';
-    last + 1
+    let start = put_text(out, name);
+    let count = put_digits(&mut out[start..], 5, n);
+    let end = start + count;
+    out[end] = b'\n';
+    end + 1
 }
 
-// A reply.
-pub fn put_reply(out: &mut [u8], at: usize, reply: Reply) -> usize
-    requires { at + length (text reply) ≤ length out.old }
-    ensures value { result ≡ at + length (text reply) }
-    ensures out_after { out.new ≡ sets out.old at (text reply) }
+// A reply, or a refusal.
+#[tactic(auto, unfolding(crate::specs::Reply::text))]
+pub fn put_reply(out: &mut [u8], reply: Result<Reply, Refusal>) -> usize
+    requires { length (text (replied reply)) ≤ length out.old }
+    ensures value { result ≡ length (text (replied reply)) }
+    ensures out_after { out.new ≡ renewed (text (replied reply)) out.old }
 {
     match reply {
-        Reply::Map(n, _) => put_named(out, at, b"map ", n),
-        Reply::At(p) => put_named(out, at, b"at ", p),
-        Reply::Done => put_text(out, at, b"ok\n"),
-        Reply::Yes => put_text(out, at, b"yes\n"),
-        Reply::Not => put_text(out, at, b"not\n"),
-        Reply::No(n) => put_named(out, at, b"no ", n),
+        Ok(Reply::Map(n, _)) => put_named(out, b"map ", n),
+        Ok(Reply::At(p)) => put_named(out, b"at ", p),
+        Ok(Reply::Done) => put_text(out, b"ok\n"),
+        Ok(Reply::Yes) => put_text(out, b"yes\n"),
+        Ok(Reply::Not) => put_text(out, b"not\n"),
+        Err(r) => put_named(out, b"no ", bitmap::number(r)),
     }
 }

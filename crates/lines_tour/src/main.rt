@@ -3,7 +3,6 @@
 #![tactic(auto)]
 
 use bitmap::BitAlloc64K;
-use lines::{Printed, Went};
 use std::io;
 
 fn main(rt: HostRuntime) -> io::Result<()> {
@@ -16,73 +15,73 @@ fn main(rt: HostRuntime) -> io::Result<()> {
 
 // No input, and no line.
 fn no_lines(rt: &impl Print) -> io::Result<()> {
-    show(rt, b"no input", b"")?;
-    show(rt, b"one line end", b"\n")?;
-    show(rt, b"two line ends", b"\n\n")
+    show(rt, "no input", b"")?;
+    show(rt, "one line end", b"\n")?;
+    show(rt, "two line ends", b"\n\n")
 }
 
 // Each is answered `no 10`, and nothing after it is read.
 fn wrong_first_lines(rt: &impl Print) -> io::Result<()> {
-    show(rt, b"size 0", b"size 0\ntake\n")?;
-    show(rt, b"size 5", b"size 5\ntake\n")?;
-    show(rt, b"size 02", b"size 02\ntake\n")?;
-    show(rt, b"size 12", b"size 12\ntake\n")?;
-    show(rt, b"no size", b"size\ntake\n")?;
-    show(rt, b"an empty size", b"size \ntake\n")?;
-    show(rt, b"two spaces", b"size  2\ntake\n")?;
-    show(rt, b"a leading space", b" size 2\ntake\n")?;
-    show(rt, b"a trailing space", b"size 2 \ntake\n")?;
-    show(rt, b"a carriage return", b"size 2\r\ntake\r\n")?;
-    show(rt, b"a capital letter", b"Size 2\ntake\n")?;
-    show(rt, b"two sizes", b"size 2 2\ntake\n")?;
-    show(rt, b"a command", b"take\nsize 2\n")?;
-    show(rt, b"another word", b"sizes 2\ntake\n")
+    show(rt, "size 0", b"size 0\ntake\n")?;
+    show(rt, "size 5", b"size 5\ntake\n")?;
+    show(rt, "size 02", b"size 02\ntake\n")?;
+    show(rt, "size 12", b"size 12\ntake\n")?;
+    show(rt, "no size", b"size\ntake\n")?;
+    show(rt, "an empty size", b"size \ntake\n")?;
+    show(rt, "two spaces", b"size  2\ntake\n")?;
+    show(rt, "a leading space", b" size 2\ntake\n")?;
+    show(rt, "a trailing space", b"size 2 \ntake\n")?;
+    show(rt, "a carriage return", b"size 2\r\ntake\r\n")?;
+    show(rt, "a capital letter", b"Size 2\ntake\n")?;
+    show(rt, "two sizes", b"size 2 2\ntake\n")?;
+    show(rt, "a command", b"take\nsize 2\n")?;
+    show(rt, "another word", b"sizes 2\ntake\n")
 }
 
 // A last line needs no line end, and a line end at the end adds no line.
 fn last_lines(rt: &impl Print) -> io::Result<()> {
-    show(rt, b"a size with no line end", b"size 1")?;
-    show(rt, b"a size with a line end", b"size 2\n")?;
-    show(rt, b"a size and an empty line", b"size 3\n\n")?;
-    show(rt, b"a size and a last line", b"size 4\ntake")?;
-    show(rt, b"a second size", b"size 1\nsize 1\nempty\n")
+    show(rt, "a size with no line end", b"size 1")?;
+    show(rt, "a size with a line end", b"size 2\n")?;
+    show(rt, "a size and an empty line", b"size 3\n\n")?;
+    show(rt, "a size and a last line", b"size 4\ntake")?;
+    show(rt, "a second size", b"size 1\nsize 1\nempty\n")
 }
 
 // The eight bytes of `size 1`, a line end and an empty line take at most 48 bytes, and the words are those of the largest size.
 fn targets(rt: &impl Print) -> io::Result<()> {
     let mut enough_words = [1u16; BitAlloc64K::WORDS];
     let mut enough_bytes = [b'.'; 48];
-    sized(rt, b"just enough", &mut enough_words, &mut enough_bytes)?;
+    sized(rt, "just enough", &mut enough_words, &mut enough_bytes)?;
     let mut few_words = [1u16; 4368];
     let mut its_bytes = [b'.'; 48];
-    sized(rt, b"a word too few", &mut few_words, &mut its_bytes)?;
+    sized(rt, "a word too few", &mut few_words, &mut its_bytes)?;
     let mut its_words = [1u16; BitAlloc64K::WORDS];
     let mut few_bytes = [b'.'; 47];
-    sized(rt, b"a byte too few", &mut its_words, &mut few_bytes)
+    sized(rt, "a byte too few", &mut its_words, &mut few_bytes)
 }
 
 // Parts of an input, each on the map that the one before it left; a map with more words than there are; and a wrong first line.
 fn parts(rt: &impl Print) -> io::Result<()> {
     let mut words = [0u16; BitAlloc64K::WORDS];
-    let first = part(rt, b"a first part", b"size 1\ninsert 0 4\n", &mut words, 0)?;
-    let second = part(rt, b"a second", b"take\ntake\n", &mut words, first)?;
-    part(rt, b"a last, with no line end", b"take", &mut words, second)?;
-    part(rt, b"no byte", b"", &mut words, second)?;
+    let first = part(rt, "a first part", b"size 1\ninsert 0 4\n", &mut words, 0)?;
+    let second = part(rt, "a second", b"take\ntake\n", &mut words, first)?;
+    part(rt, "a last, with no line end", b"take", &mut words, second)?;
+    part(rt, "no byte", b"", &mut words, second)?;
     part(
         rt,
-        b"a map with a word too many",
+        "a map with a word too many",
         b"take\n",
         &mut words,
         4370,
     )?;
-    part(rt, b"a wrong first line", b"take\nsize 1\n", &mut words, 0)?;
+    part(rt, "a wrong first line", b"take\nsize 1\n", &mut words, 0)?;
     Ok(())
 }
 
 // Prints the answers to a part, and answers how many words the map has then.
 fn part(
     rt: &impl Print,
-    name: &[u8],
+    name: &str,
     input: &[u8],
     words: &mut [u16],
     map: usize,
@@ -90,39 +89,37 @@ fn part(
     title(rt, name)?;
     let mut output = [0u8; 128];
     match lines::go_on(input, words, map, &mut output) {
-        Went::On(count, now) => {
+        Ok((count, now)) => {
             rt.write_all(&output[..count])?;
             Ok(now)
         }
-        Went::No(_) => {
+        Err(_) => {
             rt.write_all(b"refused\n")?;
             Ok(0)
         }
     }
 }
 
-fn title(rt: &impl Print, name: &[u8]) -> io::Result<()> {
-    rt.write_all(b"-- ")?;
-    rt.write_all(name)?;
-    rt.write_all(b"\n")
+fn title(rt: &impl Print, name: &str) -> io::Result<()> {
+    println!(rt; "-- {name}")
 }
 
-fn show(rt: &impl Print, name: &[u8], input: &[u8]) -> io::Result<()> {
+fn show(rt: &impl Print, name: &str, input: &[u8]) -> io::Result<()> {
     title(rt, name)?;
     let mut words = [0u16; BitAlloc64K::WORDS];
     let mut output = [0u8; 4096];
     match lines::lines(input, &mut words, &mut output) {
-        Printed::Bytes(n) => rt.write_all(&output[..n]),
-        Printed::No(_) => rt.write_all(b"refused\n"),
+        Ok(n) => rt.write_all(&output[..n]),
+        Err(_) => rt.write_all(b"refused\n"),
     }
 }
 
 // The whole output is shown, in which a dot is a byte that was not written.
-fn sized(rt: &impl Print, name: &[u8], words: &mut [u16], output: &mut [u8]) -> io::Result<()> {
+fn sized(rt: &impl Print, name: &str, words: &mut [u16], output: &mut [u8]) -> io::Result<()> {
     title(rt, name)?;
     match lines::lines(b"size 1\n\n", words, output) {
-        Printed::Bytes(_) => rt.write_all(b"printed\n")?,
-        Printed::No(_) => rt.write_all(b"refused\n")?,
+        Ok(_) => rt.write_all(b"printed\n")?,
+        Err(_) => rt.write_all(b"refused\n")?,
     }
     rt.write_all(output)?;
     rt.write_all(b"\n")

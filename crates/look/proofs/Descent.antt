@@ -6,14 +6,12 @@ use native.Mathlib.Nat.{zero-add, zero-mul, add-mul, mul_comm, mul_assoc, mul_le
 use native.Mathlib.Omega.{arith}
 use borrow.Author.Tests.{lt-ltb, le-ltb}
 use lib.ListN.{length, take, drop, get_or}
-use lib.Count.{count_trailing_zeros}
 use Rattle.words.specs.Bits.{bit, lowest_bit}
 use Rattle.words.specs.Sizes.{words, cap}
 use Rattle.words.specs.Tree.{own, child}
 use Rattle.words.specs.Place.{leaf_place, on_way}
 use Rattle.words.specs.Take.{lowest}
 use Rattle.words.proofs.Search.{first-is}
-use Rattle.words.proofs.Words.{lowest-is}
 use Rattle.words.proofs.Levels.{cap-node, cap-pos, cap-small, words-small}
 use Rattle.words.proofs.Rows.{part-within}
 use Rattle.words.proofs.OnWay.{on-own, on-leaf, on-up, on-lt, below, on-word, below-own, below-child}
@@ -41,11 +39,6 @@ module _ {k j : ℕ} (s : List ℕ) (i q : ℕ) (up : suc j ≡ k) (ei : i ≡ l
   lowest-found : q < cap j → lowest k s ≡ i * cap j + q
   unfolding lowest
   lowest-found h = rw (← up, ← ei, lt-ltb i 16 at, ← eq, lt-ltb q (cap j) h)
-
--- 0 has no lowest bit
-zero-none : {w : ℕ} → w ≡ 0 → 16 ≤ lowest_bit w
-unfolding count_trailing_zeros
-zero-none e = rw (e, lowest-is 0) (omega arith)
 
 -- ---- a map's parts of level j, each by its number p
 
@@ -106,15 +99,13 @@ module _ {k : ℕ} {s : List ℕ} {j at p : ℕ} (h : Way k s j at p) where
   pub way-small : k ≤ 6 → (p ≤ 268435456) × (at < 17895697)
   way-small l = (omega (arith, le-mul_of_pos_right p (cap-pos j), h.within, cap-small k l), omega (arith, way-at, words-small k l))
 
-  -- a part whose own word is 0 has no position
-  pub way-lost : get_or s at 0 ≡ 0 → lowest k s ≡ cap k
-  way-lost z =
-      let e = sym way-own ∙ z in
-      h.past (lowest-none j (below j k s (p * cap j)) refl (zero-none e))
+  -- a part whose own word has no bit has no position
+  pub way-lost : 16 ≤ lowest_bit (get_or s at 0) → lowest k s ≡ cap k
+  way-lost l = h.past (lowest-none j (below j k s (p * cap j)) (ap lowest_bit way-own) l)
 
--- the child i that the lowest bit of its own word w names
+-- the child i that the lowest bit of its own word names
 module _ {k : ℕ} {s : List ℕ} {j m at p : ℕ} (len : length s ≡ words k) (up : suc j ≡ m) (h : Way k s m at p)
-    (w i n : ℕ) (ew : w ≡ get_or s at 0) (ei : i ≡ lowest_bit w) (l : i < 16) (en : n ≡ words j) where
+    {i n : ℕ} (ei : i ≡ lowest_bit (get_or s at 0)) (l : i < 16) (en : n ≡ words j) where
   whole : Way k s (suc j) at p
   whole = rw up h
 
@@ -122,7 +113,7 @@ module _ {k : ℕ} {s : List ℕ} {j m at p : ℕ} (len : length s ≡ words k) 
   above = below (suc j) k s (p * cap (suc j))
 
   bit-is : i ≡ lowest_bit (own above)
-  bit-is = ei ∙ ap lowest_bit (ew ∙ way-own whole)
+  bit-is = ei ∙ ap lowest_bit (way-own whole)
 
   within : (16 * p + i) * cap j + cap j ≤ cap k
   within = omega (arith, part-start j p i, cap-node j, part-within i (cap j) l, whole.within)
@@ -150,13 +141,13 @@ module _ {k : ℕ} {s : List ℕ} {j m at p : ℕ} (len : length s ≡ words k) 
     past = λ b. whole.past (lowest-past above i _ refl bit-is l (ap (lowest j) child-is) (omega arith));
   }
 
--- a leaf word w and its lowest bit i
-module _ {k : ℕ} {s : List ℕ} {j at p : ℕ} (z : j ≡ 0) (h : Way k s j at p) (w i : ℕ) (ew : w ≡ get_or s at 0) (ei : i ≡ lowest_bit w) (l : i < 16) where
+-- a leaf word and its lowest bit i
+module _ {k : ℕ} {s : List ℕ} {j at p : ℕ} (z : j ≡ 0) (h : Way k s j at p) {i : ℕ} (ei : i ≡ lowest_bit (get_or s at 0)) (l : i < 16) where
   leaf : Way k s 0 at p
   leaf = rw (← z) h
 
   pub way-end : (16 * p + i < cap k) × (lowest k s ≡ 16 * p + i) × (at ≡ leaf_place k (16 * p + i))
   unfolding cap
   way-end =
-      let is = ei ∙ ap lowest_bit (ew ∙ way-own leaf) ∙ sym (lowest-leaf (below 0 k s (p * 16)) refl) in
+      let is = ei ∙ ap lowest_bit (way-own leaf) ∙ sym (lowest-leaf (below 0 k s (p * 16)) refl) in
       (omega (arith, leaf.within), omega (arith, leaf.found i is l), sym (leaf.stands (16 * p + i) (omega arith)) ∙ on-leaf k (16 * p + i))

@@ -5,7 +5,8 @@ use mathlib.Core.List.{List}
 use Prim.Native.Nat.{ℕ, zero, suc, ◌+◌, ◌-◌, ◌*◌, ◌/◌, ◌%◌, min, ◌<◌, ◌≤◌}
 use native.Mathlib.Omega.{arith}
 use lib.Bits.{and_mask}
-use lib.ListN.{length, get_or}
+use lib.ListN.{length, get_or, take, drop, length-take, length-drop}
+use lib.Seq.{get_or-take, get_or-drop}
 use Rattle.words.specs.Search.{none}
 use Rattle.words.specs.Bits.{bit}
 use Rattle.words.specs.Sizes.{words, cap}
@@ -27,54 +28,74 @@ row-word s at i a b le small =
 
 -- ---- the pass over a row, for the bits from a up to b, the last of them in word m
 
+-- the words before word m, as they are lent
+abbrev pub before : List ℕ → ℕ → ℕ → List ℕ
+before s at m = take (at + m - at) (drop at s)
+
 -- it comes to bit l of word i
 pub record Comes (s : List ℕ) (at a b m i l : ℕ) : Type 0 where
   pub last : m ≡ (b - 1) / 16
+  pub stored : at + m ≤ length s
   pub upto : i ≤ m
   pub low : l < 16
-  pub before : 16 * i + l < b
+  pub inside : 16 * i + l < b
   pub rest : none (row_bit s at) (16 * i + l) b ≡ none (row_bit s at) a b
 
-pub comes-start : (s : List ℕ) (at a b : ℕ) {m : ℕ} → m ≡ (b - 1) / cap 0 → a < 16 → a < b → Comes s at a b m 0 a
+pub comes-start : (s : List ℕ) (at a b : ℕ) {m : ℕ} → m ≡ (b - 1) / cap 0 → a < 16 → a < b → at * 16 + b ≤ length s * 16 → Comes s at a b m 0 a
 unfolding cap
-comes-start s at a b e low some =
+comes-start s at a b e low some stored =
     let zero-first : 16 * 0 + a ≡ a = omega arith in
-    record { last = e; upto = omega arith; low = low; before = omega arith; rest = ap (λ (x : ℕ). none (row_bit s at) x b) zero-first }
+    record { last = e; stored = omega arith; upto = omega arith; low = low; inside = omega arith; rest = ap (λ (x : ℕ). none (row_bit s at) x b) zero-first }
 
 module _ {s : List ℕ} {at a b m i l : ℕ} (h : Comes s at a b m i l) where
-  -- a bit of the word is set
-  pub comes-no : i < m → none (bit (get_or s (at + i) 0)) l 16 ≡ false → false ≡ none (row_bit s at) a b
-  comes-no lt e =
-      sym (none-no (row_bit s at) (16 * i + l) (16 * i + 16) b (omega arith) (omega arith) (row-word s at i l 16 (omega arith) (omega arith) ∙ e))
-      ∙ h.rest
+  length-before : length (before s at m) ≡ m
+  length-before = let stored = h.stored in simp (length-take, length-drop) (omega arith)
 
-  -- or none is
-  pub comes-next : i < m → none (bit (get_or s (at + i) 0)) l 16 ≡ true → Comes s at a b m (i + 1) 0
-  comes-next lt e =
-      let up : 16 * (i + 1) + 0 ≡ 16 * i + 16 = omega arith in record {
-        last = h.last;
-        upto = omega arith;
-        low = omega arith;
-        before = omega arith;
-        rest = ap (λ (x : ℕ). none (row_bit s at) x b) up
-            ∙ sym (none-on (row_bit s at) (16 * i + l) (16 * i + 16) b (omega arith) (omega arith) (row-word s at i l 16 (omega arith) (omega arith) ∙ e))
-            ∙ h.rest;
-      }
+  -- a word before the last
+  module _ (lt : i < length (before s at m)) where
+    word : get_or (before s at m) i 0 ≡ get_or s (at + i) 0
+    word = get_or-take (at + m - at) (drop at s) i 0 (omega (arith, length-before)) ∙ get_or-drop at s i 0
+
+    bits : none (row_bit s at) (16 * i + l) (16 * i + 16) ≡ none (bit (get_or (before s at m) i 0)) l 16
+    bits = rw word (row-word s at i l 16 (omega (arith, h.low)) (omega arith))
+
+    -- a bit of it is set
+    pub comes-no : none (bit (get_or (before s at m) i 0)) l 16 ≡ false → false ≡ none (row_bit s at) a b
+    comes-no e =
+        sym (none-no (row_bit s at) (16 * i + l) (16 * i + 16) b (omega (arith, h.low)) (omega (arith, h.last, length-before)) (bits ∙ e))
+        ∙ h.rest
+
+    -- or none is
+    pub comes-next : none (bit (get_or (before s at m) i 0)) l 16 ≡ true → Comes s at a b m (i + 1) 0
+    comes-next e =
+        let up : 16 * (i + 1) + 0 ≡ 16 * i + 16 = omega arith in record {
+          last = h.last;
+          stored = h.stored;
+          upto = omega (arith, length-before);
+          low = omega arith;
+          inside = omega (arith, h.last, length-before);
+          rest = ap (λ (x : ℕ). none (row_bit s at) x b) up
+              ∙ sym (none-on (row_bit s at) (16 * i + l) (16 * i + 16) b (omega (arith, h.low)) (omega (arith, h.last, length-before)) (bits ∙ e))
+              ∙ h.rest;
+        }
 
   -- the last word, which starts at x
-  module _ (le : m ≤ i) {x : ℕ} (e : x ≡ m * cap 0) where
+  module _ (le : length (before s at m) ≤ i) {x : ℕ} (e : x ≡ m * cap 0) where
+    here : m ≡ i
+    here = omega (arith, length-before, h.upto)
+
     start-is : x ≡ 16 * i
     unfolding cap
-    start-is = omega arith
+    start-is = omega (arith, here)
 
     pub comes-in : (x ≤ b) × (l ≤ b - x) × (b - x ≤ 16)
-    comes-in = omega (arith, start-is)
+    comes-in = omega (arith, start-is, h.inside, here, h.last)
 
     pub comes-last : none (bit (get_or s (at + m) 0)) l (b - x) ≡ none (row_bit s at) a b
     comes-last =
-        let here : m ≡ i = omega arith in
-        let end : 16 * i + (b - 16 * i) ≡ b = omega arith in
-        rw (start-is, here) (sym (row-word s at i l (b - 16 * i) (omega arith) (omega arith)) ∙ ap (none (row_bit s at) (16 * i + l)) end ∙ h.rest)
+        let c = comes-in in
+        let end : 16 * i + (b - 16 * i) ≡ b = omega (arith, h.inside) in
+        rw (start-is, here) (sym (row-word s at i l (b - 16 * i) (omega (arith, c, start-is)) (omega (arith, c, start-is))) ∙ ap (none (row_bit s at) (16 * i + l)) end ∙ h.rest)
 
 -- ---- the leaf words of 256 positions are a row
 
@@ -88,11 +109,6 @@ passed-row (suc (suc k)) p q l m e =
 
 place-row : (k p q : ℕ) → p < cap k → q < cap k → p / 256 ≡ q / 256 → leaf_place k q + p / 16 ≡ leaf_place k p + q / 16
 place-row k p q l m e = omega (arith, place-passed k p l, place-passed k q m, passed-row k p q l m e)
-
--- the border of 256 positions before p
-pub row-start : (p : ℕ) {r : ℕ} → r ≡ p % cap 1 → r ≤ p
-unfolding cap
-row-start p e = omega arith
 
 -- the positions from p up to e have their leaf words in a row, and l is the bit of p in the first of them
 pub record InRow (k p e l : ℕ) : Type 0 where

@@ -49,7 +49,8 @@ node-first : (k : ℕ) (s : List ℕ) (i : ℕ) → i ≡ lowest_bit (own s) →
     → first_free (suc k) s ≡ i * cap k + first_free k (child k s i)
 node-first k s i e l m =
     let h : First (bit (own s)) 0 16 i = rw e (first-is (bit (own s)) 0 16 16 refl) in
-    sym (from-zero (suc k) s) ∙ rw zero-mul at (next-hit k s h l (sym (from-zero k (child k s i))) m)
+    let below : next_in (free? k (child k s i)) (cap k) 0 < cap k = rw (from-zero k (child k s i)) m in
+    sym (from-zero (suc k) s) ∙ rw zero-mul at (next-hit k s h l below) ∙ ap (λ (q : ℕ). i * cap k + q) (from-zero k (child k s i))
   where
     from-zero : (j : ℕ) (c : List ℕ) → next_in (free? j c) (cap j) 0 ≡ first_free j c
     from-zero j c = ap (first_from (free? j c) 0) (sub-zero (cap j))

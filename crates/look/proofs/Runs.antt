@@ -1,6 +1,6 @@
 -- Aligned runs: the multiples of a number, what it is that a run stands at a place, what the search for the lowest run finds, and how
 -- that search may go on from place to place. Assumes nothing.
-use mathlib.Core.Path.{◌≡◌, sym, ap, ◌∙◌}
+use mathlib.Core.Path.{◌≡◌, sym, ◌∙◌}
 use mathlib.Core.Bool.{Bool, true, false, not, ◌&&◌, true≢false}
 use mathlib.Core.Logic.{⊎_elim}
 use Prim.Native.Nat.{ℕ, suc, ◌+◌, ◌-◌, ◌*◌, ◌/◌, ◌%◌, ◌^◌, ◌≤◌, ◌<◌}
@@ -14,7 +14,8 @@ use Rattle.words.specs.Search.{first_from, all}
 use Rattle.words.specs.Sizes.{cap}
 use Rattle.words.specs.Run.{Run, next_in, misfit, aligned, run?, run_in}
 use Rattle.words.proofs.Search.{First, first-is, first-skip, first-at, first-end, all-at, all-is}
-use Rattle.words.proofs.Tests.{sort, and-both, none-of}
+use Rattle.std.proofs.lemmas.Bool.{cases_Bool}
+use Rattle.words.proofs.Tests.{and-both, none-of}
 use Rattle.words.proofs.Levels.{cap-pow}
 
 -- ---- multiples
@@ -66,7 +67,7 @@ module _ (f : ℕ → Bool) (n size align : ℕ) where
   is-run b r = rw (eq-eqb (b % 2 ^ align) 0 r.multiple, le-leb (b + size) n r.fits) (all-is f b size r.free)
 
   no-run : (b : ℕ) → (Run f n size align b → ⊥) → run? f n size align b ≡ false
-  no-run b h = ⊎_elim (λ e. absurd (h (run-is b e))) (λ e. e) (sort (run? f n size align b))
+  no-run b h = ⊎_elim (λ e. absurd (h (run-is b e))) (λ e. e) (cases_Bool (run? f n size align b))
 
   -- what is found is a run, and no run stands lower
   pub run-found : (b : ℕ) → run_in f n size align ≡ b → b < n → Run f n size align b × ((q : ℕ) → q < b → Run f n size align q → ⊥)
@@ -109,11 +110,6 @@ module _ (f : ℕ → Bool) (b size end : ℕ) (e : end ≡ first_from (λ p. no
 pub record Sought (f : ℕ → Bool) (n size align x : ℕ) : Type 0 where
   pub upto : x ≤ n
   pub same : run_in f n size align ≡ first_from (run? f n size align) x (n - x)
-
-pub sought-start : (f : ℕ → Bool) (n size align : ℕ) → Sought f n size align 0
-sought-start f n size align =
-    let z : n ≡ n - 0 = omega arith in
-    record { upto = omega arith; same = ap (first_from (run? f n size align) 0) z }
 
 module _ {f : ℕ → Bool} {n size align x : ℕ} (h : Sought f n size align x) where
   -- on to y, where none stands between

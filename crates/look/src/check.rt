@@ -3,7 +3,8 @@ ghost use Rattle.std.specs.Prelude.{◌≡◌, ◌≤◌, length};
 ghost use Rattle.words.specs.Sizes.{words};
 ghost use Rattle.words.specs.Tree.{true?};
 
-use words::{sizes, word};
+use crate::child::child;
+use words::word;
 
 // Whether each summary bit is set exactly where the child's own word is not 0.
 pub fn check(k: usize, s: &[u16]) -> bool
@@ -13,15 +14,13 @@ pub fn check(k: usize, s: &[u16]) -> bool
     if k == 0 {
         return true;
     }
-    let size = sizes::words_of(k - 1);
     let w = s[0];
     for i in 0..16 {
-        let a = 1 + i * size;
-        let e = a + size;
-        if word::test(w, i) != (s[a] != 0) {
+        let below = child(k - 1, s, i);
+        if word::test(w, i) != (below[0] != 0) {
             return false;
         }
-        if !check(k - 1, &s[a..e]) {
+        if !check(k - 1, below) {
             return false;
         }
     }

@@ -22,10 +22,10 @@ pub fn all_taken(k: usize, s: &[u16], a: usize, b: usize) -> bool
     ensures { result ≡ none (leaf? k s.now) a b }
 {
     let mut p = a;
-    while p < b {
+    while p < b { // not a `for`: the first turn goes to the end of a's own row
         let low = sizes::rest_of(0, p);
         let row = p - sizes::rest_of(1, p) + BitAlloc256::CAP; // up to there the leaf words stand side by side
-        let end = if row < b { row } else { b };
+        let end = row.min(b);
         if !row_taken(s, place::leaf_place(k, p), low, low + (end - p)) {
             return false;
         }
@@ -41,8 +41,8 @@ fn row_taken(s: &[u16], at: usize, a: usize, b: usize) -> bool
 {
     let last = sizes::child_of(0, b - 1);
     let mut from = a;
-    for i in 0..last {
-        if !word::clear(s[at + i], from, 16) {
+    for &w in &s[at..at + last] {
+        if !word::clear(w, from, 16) {
             return false;
         }
         from = 0;

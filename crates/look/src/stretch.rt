@@ -1,10 +1,13 @@
-// Where a stretch of free positions ends, a leaf word at a time.
+// Where a stretch of free positions ends, a leaf word at a time. An end is a place from which the callers go on, so it is a number also
+// where the stretch goes on behind it, and no Option.
 ghost use Rattle.std.specs.Prelude.{◌≡◌, not, ◌-◌, ◌%◌, ◌≤◌, ◌<◌, length};
 ghost use Rattle.words.specs.Search.{first_from};
 ghost use Rattle.words.specs.Sizes.{words, cap};
 ghost use Rattle.words.specs.Tree.{free?};
 
+use crate::child::child;
 use words::kind::Change;
+use words::table::by_level;
 use words::{sizes, word};
 
 // The first position from key on in key's own leaf word that is not free and seen; the word's end where there is none.
@@ -22,13 +25,10 @@ pub fn end_in_word(k: usize, s: &[u16], key: usize) -> usize
     if !word::test(s[0], i) {
         return key;
     }
-    let size = sizes::words_of(j);
-    let from = 1 + i * size;
-    let to = from + size;
-    sizes::start_of(j, i) + end_in_below(j, &s[from..to], sizes::rest_of(j, key))
+    sizes::start_of(j, i) + end_in_below(j, child(j, s, i), sizes::rest_of(j, key))
 }
 
-// The same by a table of the levels, so that the compiled code has each level's numbers in it.
+// The same by a table of the levels, so that the compiled code has each level's numbers in it. Not by `by_level`, as `next_below`.
 #[cycle(ends)]
 pub fn end_in_below(k: usize, s: &[u16], key: usize) -> usize
     requires { (k ≤ 5) × (length s.now ≡ words k) × (key < cap k) }
@@ -50,11 +50,11 @@ pub fn end_of(k: usize, s: &[u16], a: usize, b: usize) -> usize
     ensures { result ≡ first_from (λ p. not (free? k s.now p)) a (b - a) }
 {
     let mut x = a;
-    while x < b {
+    while x < b { // not a `for`: the first turn goes to the end of a's own word
         let r = end_in_word(k, s, x);
         let word_end = (x | 15) + 1;
         if r < word_end {
-            return if r < b { r } else { b };
+            return r.min(b);
         }
         x = word_end;
     }
@@ -66,13 +66,5 @@ pub fn end_by_level(k: usize, s: &[u16], a: usize, b: usize) -> usize
     requires { (k ≤ 6) × (length s.now ≡ words k) × (a < b) × (b ≤ cap k) }
     ensures { result ≡ first_from (λ p. not (free? k s.now p)) a (b - a) }
 {
-    match k {
-        0 => end_of(0, s, a, b),
-        1 => end_of(1, s, a, b),
-        2 => end_of(2, s, a, b),
-        3 => end_of(3, s, a, b),
-        4 => end_of(4, s, a, b),
-        5 => end_of(5, s, a, b),
-        _ => end_of(6, s, a, b),
-    }
+    by_level(k, |k| end_of(k, s, a, b))
 }

@@ -1,100 +1,61 @@
 // The call that a line of the script says, with its answer and, after a change, the words of the store.
-use crate::script::{begins, field};
 use crate::show;
-use crate::show::Out;
-use bitmap::{Base, Changed, Taken, Told};
+use bitmap::Refusal;
+use std::io;
 
 // What a call answers: a take and another change leave words to show, a look-up and a test do not.
 #[derive(Clone, Copy)]
-enum Answer {
-    Take(Taken),
-    Look(Taken),
-    Change(Changed),
-    Test(Told),
+pub enum Answer {
+    Take(Result<usize, Refusal>),
+    Look(Result<usize, Refusal>),
+    Change(Result<(), Refusal>),
+    Test(Result<bool, Refusal>),
 }
 
 // Makes the call and writes what it answers.
-pub fn call(out: &mut Out, line: &[u8], s: &mut [u16]) {
-    let answer = made(
-        code(line),
-        s,
-        field(line, 1) as usize,
-        field(line, 2) as usize,
-        field(line, 3) as usize,
-        field(line, 4) as usize,
-    );
+pub fn call(rt: &impl Print, line: &[u8], s: &mut [u16]) -> io::Result<()> {
+    let answer = made(line, s);
+    show::answer(rt, answer)?;
     match answer {
-        Answer::Take(t) => {
-            show::answer_of_take(out, t);
-            show::words(out, s);
-        }
-        Answer::Look(t) => {
-            show::answer_of_take(out, t);
-            show::text(out, b"\n");
-        }
-        Answer::Change(c) => {
-            show::answer_of_change(out, c);
-            show::words(out, s);
-        }
-        Answer::Test(t) => {
-            show::answer_of_test(out, t);
-            show::text(out, b"\n");
-        }
+        Answer::Take(_) | Answer::Change(_) => show::words(rt, s),
+        Answer::Look(_) | Answer::Test(_) => println!(rt; ""),
     }
 }
 
 // The calls in the Rust's order; of two names the longer first.
-fn code(line: &[u8]) -> usize {
-    if begins(line, b"alloc_contiguous any ") {
-        return 1;
-    }
-    if begins(line, b"alloc_contiguous at ") {
-        return 2;
-    }
-    if begins(line, b"alloc") {
-        return 0;
-    }
-    if begins(line, b"next ") {
-        return 3;
-    }
-    if begins(line, b"dealloc ") {
-        return 4;
-    }
-    if begins(line, b"dealloc_contiguous ") {
-        return 5;
-    }
-    if begins(line, b"dealloc_contiguous_old ") {
-        return 6;
-    }
-    if begins(line, b"insert ") {
-        return 7;
-    }
-    if begins(line, b"remove ") {
-        return 8;
-    }
-    if begins(line, b"is_empty") {
-        return 9;
-    }
-    if begins(line, b"test ") {
-        return 10;
-    }
-    11
-}
-
-// The numbers after the first four spaces of the line are a, b, c and d: a run's base stands after `any` or `at`.
-fn made(code: usize, s: &mut [u16], a: usize, b: usize, c: usize, d: usize) -> Answer {
-    match code {
-        0 => Answer::Take(bitmap::alloc(s)),
-        1 => Answer::Take(bitmap::alloc_contiguous(s, Base::Any, b, c)),
-        2 => Answer::Take(bitmap::alloc_contiguous(s, Base::At(b), c, d)),
-        3 => Answer::Look(bitmap::next(s, a)),
-        4 => Answer::Change(bitmap::dealloc(s, a)),
-        5 => Answer::Change(bitmap::dealloc_contiguous(s, a, b)),
-        6 => Answer::Change(bitmap::dealloc_contiguous_old(s, a, b)),
-        7 => Answer::Change(bitmap::insert(s, a, b)),
-        8 => Answer::Change(bitmap::remove(s, a, b)),
-        9 => Answer::Test(bitmap::is_empty(s)),
-        10 => Answer::Test(bitmap::test(s, a)),
-        _ => Answer::Test(bitmap::check(s)),
+fn made(line: &[u8], s: &mut [u16]) -> Answer {
+    if let Some(rest) = line.strip_prefix(b"alloc_contiguous any ") {
+        let [size, align_log2] = numbers::of_line::<2>(rest);
+        Answer::Take(bitmap::alloc_contiguous(s, None, size, align_log2))
+    } else if let Some(rest) = line.strip_prefix(b"alloc_contiguous at ") {
+        let [base, size, align_log2] = numbers::of_line::<3>(rest);
+        Answer::Take(bitmap::alloc_contiguous(s, Some(base), size, align_log2))
+    } else if line.starts_with(b"alloc") {
+        Answer::Take(bitmap::alloc(s))
+    } else if let Some(rest) = line.strip_prefix(b"next ") {
+        let [key] = numbers::of_line::<1>(rest);
+        Answer::Look(bitmap::next(s, key))
+    } else if let Some(rest) = line.strip_prefix(b"dealloc ") {
+        let [key] = numbers::of_line::<1>(rest);
+        Answer::Change(bitmap::dealloc(s, key))
+    } else if let Some(rest) = line.strip_prefix(b"dealloc_contiguous ") {
+        let [base, size] = numbers::of_line::<2>(rest);
+        Answer::Change(bitmap::dealloc_contiguous(s, base, size))
+    } else if let Some(rest) = line.strip_prefix(b"dealloc_contiguous_old ") {
+        let [base, size] = numbers::of_line::<2>(rest);
+        Answer::Change(bitmap::dealloc_contiguous_old(s, base, size))
+    } else if let Some(rest) = line.strip_prefix(b"insert ") {
+        let [start, end] = numbers::of_line::<2>(rest);
+        Answer::Change(bitmap::insert(s, start, end))
+    } else if let Some(rest) = line.strip_prefix(b"remove ") {
+        let [start, end] = numbers::of_line::<2>(rest);
+        Answer::Change(bitmap::remove(s, start, end))
+    } else if line.starts_with(b"is_empty") {
+        Answer::Test(bitmap::is_empty(s))
+    } else if let Some(rest) = line.strip_prefix(b"test ") {
+        let [key] = numbers::of_line::<1>(rest);
+        Answer::Test(bitmap::test(s, key))
+    } else {
+        Answer::Test(bitmap::check(s))
     }
 }

@@ -5,7 +5,7 @@ use Prim.Native.Nat.{ℕ, zero, suc, ◌+◌, ◌-◌, ◌*◌, ◌/◌, ◌%◌
 use native.Mathlib.Nat.{div-add-mod', mod-lt, mul_comm, mul-add, mul_left_comm, zero-add}
 use native.Mathlib.Omega.{arith}
 use lib.Pow.{shr-shr}
-use lib.Bits.{bit_and, and_mask, mask_lt}
+use lib.Bits.{bit_and, and_mask}
 use lib.ListN.{length, get_or}
 use Rattle.words.specs.Bits.{bit}
 use Rattle.words.specs.Sizes.{words, cap}
@@ -76,8 +76,5 @@ pub place-shifts : (k p : ℕ) → k ≤ 6 → p < cap k
 place-shifts k p l h = omega (arith, passed-shifts p, place-passed k p h, passed-more k 6 p l h)
 
 -- the leaf bit at p is bit `p & 15` of that word
-pub low-lt : (p : ℕ) → bit_and p 15 < 16
-low-lt p = mask_lt p 4
-
 pub leaf-stored : (k : ℕ) (s : List ℕ) (p : ℕ) → length s ≡ words k → p < cap k → leaf? k s p ≡ bit (get_or s (leaf_place k p) 0) (bit_and p 15)
 leaf-stored k s p len l = leaf-below k s p len l ∙ rw (leaf-word k s p, and_mask p 4)

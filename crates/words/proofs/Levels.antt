@@ -8,8 +8,11 @@ use lib.Pow.{pow-add, pow_mono}
 use lib.Dec.{eqb}
 use borrow.Author.Tests.{eqb-true, eq-eqb, ne_eqb}
 use Rattle.words.specs.Search.{first_from}
+use Rattle.words.specs.Below.{below}
 use Rattle.words.specs.Sizes.{words, cap, level_of}
 use Rattle.words.proofs.Search.{first-is, is-first}
+use Rattle.words.proofs.Below.{below-some}
+use Rattle.std.specs.Prelude.{Some, None}
 
 -- ---- a map and its children
 
@@ -121,8 +124,11 @@ words-level n h = sym (eqb-true n (words (level_of n)) ((first-is (λ k. eqb n (
 pub level-at : {n : ℕ} (k : ℕ) → n ≡ words k → k < 7 → k ≡ level_of n
 level-at k e h = sym (ap level_of e ∙ level-words k h)
 
+pub level-found : {n : ℕ} (k : ℕ) → n ≡ words k → k < 7 → Some k ≡ below 7 (level_of n)
+level-found k e h = rw (sym (level-at k e h)) (below-some h)
+
 -- a store of any other count has none
-pub level-none : (n : ℕ) → (n ≡ 1 → ⊥) → (n ≡ 17 → ⊥) → (n ≡ 273 → ⊥) → (n ≡ 4369 → ⊥) → (n ≡ 69905 → ⊥) → (n ≡ 1118481 → ⊥) → (n ≡ 17895697 → ⊥)
-    → 7 ≡ level_of n
+pub level-missing : (n : ℕ) → (n ≡ 1 → ⊥) → (n ≡ 17 → ⊥) → (n ≡ 273 → ⊥) → (n ≡ 4369 → ⊥) → (n ≡ 69905 → ⊥) → (n ≡ 1118481 → ⊥) → (n ≡ 17895697 → ⊥)
+    → None ≡ below 7 (level_of n)
 unfolding level_of first_from words
-level-none n a b c d e f g = simp (ne_eqb _ _ a, ne_eqb _ _ b, ne_eqb _ _ c, ne_eqb _ _ d, ne_eqb _ _ e, ne_eqb _ _ f, ne_eqb _ _ g)
+level-missing n a b c d e f g = simp (ne_eqb _ _ a, ne_eqb _ _ b, ne_eqb _ _ c, ne_eqb _ _ d, ne_eqb _ _ e, ne_eqb _ _ f, ne_eqb _ _ g)

@@ -1,6 +1,7 @@
 -- The laws of words and maps that every crate above may cite, each file on those before it.
 pub mod Tests
 pub mod Search
+pub mod Below
 pub mod Levels
 pub mod Rows
 pub mod Within

@@ -2,6 +2,7 @@
 use mathlib.Core.Path.{◌≡◌, refl, sym, ap, ◌∙◌}
 use Prim.Native.Nat.{ℕ, zero, suc, ◌+◌, ◌-◌, ◌*◌, ◌/◌, ◌%◌, ◌^◌, ◌<◌, ◌≤◌}
 use native.Mathlib.Nat.{mul_comm, mul_assoc, div-add-mod', div-lt_iff_lt-mul, mod-lt}
+use native.Mathlib.Numerals.{add-one}
 use native.Mathlib.Omega.{arith}
 use lib.Pow.{pow-add, pow_mono, pow_pos}
 use Rattle.words.specs.Sizes.{words, cap}
@@ -95,46 +96,48 @@ place-child h (suc d) k i r e l m =
 
 -- ---- a place found from the word up to its map's own word, one depth at a time
 
--- word j of depth d in a map of level k: at its ancestor of depth e, which is word n there and has as many words below and with it as
--- size says, the places passed are a
-pub record Upward (k d j e n size a : ℕ) : Type 0 where
-  pub upto : e ≤ k
-  pub index-lt : n < count e
-  pub size_is : size ≡ words (k - e)
-  pub whole : a + place (k - e) e n ≡ place (k - d) d j
+-- word j of depth d in a map of level k: at its ancestor u depths up, which is word n of its depth and has as many words below and with it
+-- as size says, the places passed are a
+pub record Upward (k d j u n size a : ℕ) : Type 0 where
+  pub upto : u ≤ d
+  pub index-lt : n < count (d - u)
+  pub size_is : size ≡ words (k - d + u)
+  pub whole : a + place (k - d + u) (d - u) n ≡ place (k - d) d j
 
 module _ (k d j : ℕ) where
-  pub up-start : (size : ℕ) → d ≤ k → j < count d → size ≡ words (k - d) → Upward k d j d j size 0
-  up-start size h l e = record { upto = h; index-lt = l; size_is = e; whole = omega arith }
-
   -- one depth up
-  module _ (e n size a : ℕ) (h : Upward k d j e n size a) (pos : 0 < e) where
-    step : a + (1 + n % 16 * size) + place (k - (e - 1)) (e - 1) (n / 16) ≡ place (k - d) d j
+  module _ {u n size a : ℕ} (h : Upward k d j u n size a) (below : u < d) where
+    abbrev depth : ℕ
+    depth = d - suc u
+
+    down : suc depth ≡ d - u
+    down = omega arith
+
+    level : k - d + suc u ≡ suc (k - d + u)
+    level = omega arith
+
+    step : a + (1 + n % 16 * size) + place (k - d + suc u) depth (n / 16) ≡ place (k - d) d j
     step =
-        let up : suc (e - 1) ≡ e = omega arith in
-        let level : suc (k - e) ≡ k - (e - 1) = omega (arith, h.upto) in
-        let cut : place (k - e) e n ≡ place (k - (e - 1)) (e - 1) (n / 16) + (1 + n % 16 * words (k - e)) =
-        ap (λ (x : ℕ). place (k - e) x n) (sym up) ∙ place-step (k - e) (e - 1) n ∙ rw level in
-        rw h.size_is (omega (arith, h.whole))
+        let cut : place (k - d + u) (d - u) n ≡ place (suc (k - d + u)) depth (n / 16) + (1 + n % 16 * words (k - d + u)) =
+        rw (← down) (place-step (k - d + u) depth n) in
+        rw (level, h.size_is) (omega (arith, h.whole))
 
-    index : n / 16 < count (e - 1)
-    index = let up : suc (e - 1) ≡ e = omega arith in omega (arith, h.index-lt, count-node (e - 1), ap count up)
+    index : n / 16 < count depth
+    index = omega (arith, h.index-lt, count-node depth, ap count down)
 
-    bigger : 1 + 16 * size ≡ words (k - (e - 1))
-    bigger =
-        let level : suc (k - e) ≡ k - (e - 1) = omega (arith, h.upto) in
-        omega (arith, h.size_is, words-node (k - e), ap words level)
+    bigger : 1 + 16 * size ≡ words (k - d + suc u)
+    bigger = rw level (omega (arith, h.size_is, words-node (k - d + u)))
 
-    pub up-turn : Upward k d j (e - 1) (n / 16) (1 + 16 * size) (a + (1 + n % 16 * size))
-    up-turn = record { upto = omega (arith, h.upto); index-lt = index; size_is = bigger; whole = step }
+    pub up-turn : Upward k d j (u + 1) (n / 16) (1 + 16 * size) (a + (1 + n % 16 * size))
+    up-turn = rw add-one (record { upto = omega arith; index-lt = index; size_is = bigger; whole = step })
 
     -- no number on the way is larger than the map
     pub up-fits : d ≤ k → j < count d → k ≤ 6 → (a + (1 + n % 16 * size) ≤ 17895697) × (1 + 16 * size ≤ 17895697)
     up-fits le l small =
         let here : place (k - d) d j < words k = place-lt (k - d) d k j (omega arith) l in
-        let within = place-within (k - (e - 1)) (e - 1) k (n / 16) (omega (arith, h.upto)) index in
-        (omega (arith, step, words-small k small), omega (arith, bigger, words-small k small))
+        let within = place-within (k - d + suc u) depth k (n / 16) (omega arith) index in
+        (omega (arith, step, words-small k small), omega (arith, bigger, within, words-small k small))
 
-  pub up-end : (n size a : ℕ) → Upward k d j 0 n size a → a ≡ place (k - d) d j
+  pub up-end : {n size a : ℕ} → Upward k d j d n size a → a ≡ place (k - d) d j
   unfolding place
-  up-end n size a h = omega (arith, h.whole)
+  up-end h = let own : d - d ≡ 0 = omega arith in omega (arith, rw own at h.whole)

@@ -10,7 +10,8 @@ use native.Mathlib.Omega.{arith}
 use lib.Dec.{leb}
 use borrow.Author.Tests.{le-leb, lt-leb, leb-true, leb-false}
 use Rattle.words.specs.Search.{first_from, none, all}
-use Rattle.words.proofs.Tests.{sort, and-both}
+use Rattle.std.proofs.lemmas.Bool.{cases_Bool}
+use Rattle.words.proofs.Tests.{and-both}
 
 -- ---- what a search finds, and that only it is found
 
@@ -36,7 +37,7 @@ found f a (suc n) =
     ⊎_elim
     (λ e. rw e (record { from = omega arith; upto = omega arith; here = λ _. e; before = λ q l u. absurd (omega arith) }))
     (λ e. rw e (later e (rw up at (found f (suc a) n))))
-    (sort (f a))
+    (cases_Bool (f a))
   where
     up : suc a + n ≡ a + suc n
     up = omega arith
@@ -190,7 +191,7 @@ all-is f a (suc n) h = rw (h a (omega arith) (omega arith)) (all-is f (suc a) n 
 
 -- one place at which it does not hold
 all-not : (f : ℕ → Bool) (a n q : ℕ) → a ≤ q → q < a + n → f q ≡ false → all f a n ≡ false
-all-not f a n q l u h = ⊎_elim (λ e. absurd (true≢false (sym (all-at f a n e q l u) ∙ h))) (λ e. e) (sort (all f a n))
+all-not f a n q l u h = ⊎_elim (λ e. absurd (true≢false (sym (all-at f a n e q l u) ∙ h))) (λ e. e) (cases_Bool (all f a n))
 
 -- tests that agree
 all-ext : (f g : ℕ → Bool) (a n : ℕ) → ((q : ℕ) → a ≤ q → q < a + n → f q ≡ g q) → all f a n ≡ all g a n

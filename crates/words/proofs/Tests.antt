@@ -1,12 +1,7 @@
--- Tests: one that holds or does not, and what two together say. Assumes nothing.
+-- Tests: what two together say. Assumes nothing.
 use mathlib.Core.Path.{◌≡◌, refl, sym}
 use mathlib.Core.Bool.{Bool, true, false, cond, ◌&&◌, ◌||◌, beq, true≢false}
-use mathlib.Core.Logic.{◌⊎◌, inl, inr}
 use Rattle.words.specs.Tree.{same}
-
-pub sort : (b : Bool) → (b ≡ true) ⊎ (b ≡ false)
-sort true = inl refl
-sort false = inr refl
 
 -- two tests that imply each other
 pub both-ways : (a b : Bool) → (a ≡ true → b ≡ true) → (b ≡ true → a ≡ true) → a ≡ b
@@ -19,14 +14,6 @@ both-ways false false f g = refl
 pub and-both : (a b : Bool) → a && b ≡ true → (a ≡ true) × (b ≡ true)
 and-both true b h = (refl, h)
 and-both false b h = absurd (true≢false (sym h))
-
-pub and-true : (b : Bool) → (b && true) ≡ b
-and-true true = refl
-and-true false = refl
-
-pub and-false : (b : Bool) → (b && false) ≡ false
-and-false true = refl
-and-false false = refl
 
 -- ---- either of two tests, and neither
 

@@ -14,7 +14,8 @@ use borrow.Author.Tests.{eq-eqb, eqb-true, not-false}
 use Rattle.words.specs.Bits.{bit, some, lowest_bit}
 use Rattle.words.specs.Sizes.{words, cap}
 use Rattle.words.specs.Tree.{Fits, own, child, leaf?, free?, true?}
-use Rattle.words.proofs.Tests.{sort, and-both, same-is, same-self}
+use Rattle.std.proofs.lemmas.Bool.{cases_Bool}
+use Rattle.words.proofs.Tests.{and-both, same-is, same-self}
 use Rattle.words.proofs.Search.{first-is, all-at, all-is}
 use Rattle.words.proofs.Bits.{bit-of-zero, no-bits}
 use Rattle.words.proofs.Levels.{cap-pos}
@@ -110,4 +111,4 @@ free-leaf (suc k) s p h l =
     (λ e.
     let none = live k (child k s i) q r.1 (no-some (own (child k s i)) (sym r.0 ∙ e)) m in
     ap (λ (b : Bool). bit (own s) i && b) none ∙ and-false (bit (own s) i) ∙ sym none)
-    (sort (bit (own s) i))
+    (cases_Bool (bit (own s) i))

@@ -3,7 +3,7 @@ use mathlib.Core.Path.{◌≡◌, refl, sym, ap, ◌∙◌}
 use mathlib.Core.Bool.{Bool, true, false, cond, not, ◌&&◌, ◌||◌, and-false, and_self, true≢false}
 use mathlib.Core.Logic.{⊎_elim}
 use Prim.Native.Nat.{ℕ, zero, suc, ◌+◌, ◌-◌, ◌*◌, ◌/◌, ◌%◌, ◌^◌, ◌≤◌, ◌<◌}
-use native.Mathlib.Nat.{one-mul, mod-eq_of_lt, lt_of_le_of_lt, lt_of_lt_of_le, div-mul-le_self, div-one, zero-add, add-zero, suc-add, add-suc}
+use native.Mathlib.Nat.{one-mul, mod-eq_of_lt, lt_of_le_of_lt, lt_of_lt_of_le, div-one, zero-add, add-zero, suc-add, add-suc}
 use native.Mathlib.Decide.{ℕ_discrete}
 use native.Mathlib.Numerals.{add-one}
 use native.Mathlib.Omega.{arith}
@@ -16,7 +16,8 @@ use Rattle.words.specs.declared.kind.Change.TheVariants.{Remove}
 use Rattle.words.specs.Search.{first_from, none}
 use Rattle.words.specs.Bits.{bit, digit, word_of, within, change_word, lowest_bit}
 use Rattle.words.proofs.Search.{First, first-is, first-ext, first-skip}
-use Rattle.words.proofs.Tests.{sort, and-both}
+use Rattle.std.proofs.lemmas.Bool.{cases_Bool}
+use Rattle.words.proofs.Tests.{and-both}
 use Rattle.words.proofs.Bits.{low-is, digit-at, bit-up, half-is, bit-of-zero, bit-pack, pack-ext, pack-lt, is-pack, no-bits, mask-bit, pow-bit, not-bit, and-bit, or-bit}
 
 -- ---- shifts and masks
@@ -30,17 +31,9 @@ test-is w i = rw (and_mask (w / 2 ^ i) 1)
 pub shl-one : (n i : ℕ) → i < n → 1 * 2 ^ i % 2 ^ n ≡ 2 ^ i
 shl-one n i h = rw (one-mul, mod-eq_of_lt (pow-lt h))
 
--- `(1 << i) - 1` does not wrap
-pub shl-pos : (n i : ℕ) → i < n → 1 ≤ 1 * 2 ^ i % 2 ^ n
-shl-pos n i h = rw (shl-one n i h) (pow_pos i)
-
 -- `p & ((1 << i) - 1)`
 pub rest-is : (n p i : ℕ) → i < n → bit_and p (1 * 2 ^ i % 2 ^ n - 1) ≡ p % 2 ^ i
 rest-is n p i h = rw (shl-one n i h) (and_mask p i)
-
--- `(p >> i) << i`
-pub floor-is : (n i p : ℕ) → p < 2 ^ n → p / 2 ^ i * 2 ^ i % 2 ^ n ≡ p / 2 ^ i * 2 ^ i
-floor-is n i p h = mod-eq_of_lt (lt_of_le_of_lt (div-mul-le_self p (2 ^ i)) h)
 
 -- `(1 << b) - (1 << a)`
 pub mask-is : (a b : ℕ) → a ≤ b → b ≤ 16 → 1 * 2 ^ b % 2 ^ 32 - 1 * 2 ^ a % 2 ^ 32 ≡ word_of (within a b)
@@ -131,7 +124,7 @@ module _ (w a b : ℕ) (fits : w < 2 ^ 16) (le : a ≤ b) (small : b ≤ 16) whe
           let below : i < first = omega (arith, ltb-true i b p.1) in
           rw (t.before i (leb-true a i p.0) below))
           (λ y. rw y (and-false (bit w i)))
-          (sort (within a b i))
+          (cases_Bool (within a b i))
 
   -- which is what the test says
   pub mask-clear : eqb masked 0 ≡ none (bit w) a b

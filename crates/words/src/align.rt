@@ -2,7 +2,7 @@
 ghost use Rattle.std.specs.Prelude.{◌≡◌, ◌+◌, ◌-◌, ◌*◌, ◌/◌, ◌^◌, min, ◌<◌};
 ghost use Rattle.words.specs.Run.{aligned, misfit};
 
-// The lowest multiple of 2^align_log2 that is base or more.
+// The lowest multiple of 2^align_log2 that is base or more, by shifts: std's next_multiple_of divides.
 pub fn align_up_log2(base: usize, align_log2: usize) -> usize
     requires { (align_log2 < 64) × (base + 2 ^ align_log2 < 2 ^ 64) }
     ensures { result ≡ (base + (2 ^ align_log2 - 1)) / 2 ^ align_log2 * 2 ^ align_log2 }
@@ -30,9 +30,5 @@ pub fn misfits(cap: usize, align_log2: usize) -> bool
 pub fn run_end(base: usize, size: usize) -> usize
     ensures { result ≡ min (base + size) (2 ^ 64 - 1) }
 {
-    if size <= 18446744073709551615 - base {
-        base + size
-    } else {
-        18446744073709551615
-    }
+    base.saturating_add(size)
 }

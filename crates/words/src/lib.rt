@@ -6,5 +6,6 @@ pub mod align;
 pub mod kind;
 pub mod place;
 pub mod sizes;
+pub mod table;
 pub mod turn;
 pub mod word;

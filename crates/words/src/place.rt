@@ -18,15 +18,13 @@ pub fn word_place(k: usize, d: usize, j: usize) -> usize
     requires { (k ≤ 6) × (d ≤ k) × (j < count d) }
     ensures { (result ≡ place (k - d) d j) × (result < words k) }
 {
-    let mut e = d;
     let mut rest = j;
     let mut size = sizes::words_of(k - d);
     let mut at = 0;
-    while 0 < e {
+    for _up in 0..d {
         at += 1 + rest % 16 * size;
         rest /= 16;
         size = 1 + 16 * size;
-        e -= 1;
     }
     at
 }

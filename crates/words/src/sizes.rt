@@ -1,7 +1,11 @@
 // The seven sizes, each with its positions and its words, and the steps between a map and its children.
 // A map's level k counts the levels below its own word: BitAlloc16 has k = 0.
 ghost use Rattle.std.specs.Prelude.{◌≡◌, ◌*◌, ◌/◌, ◌%◌, ◌≤◌};
+ghost use Rattle.words.specs.Below.{below};
 ghost use Rattle.words.specs.Sizes.{words, cap, level_of};
+
+// Seven types, and not one with the level as a const parameter: Rattle takes no constant of a generic impl or of a trait as the length of an
+// array, as in the programs' `[0u16; BitAlloc256::WORDS]`, nor in a pattern.
 
 #[derive(Clone, Copy)]
 pub struct BitAlloc16;
@@ -66,31 +70,34 @@ impl BitAlloc256M {
     pub const WORDS: usize = 17895697;
 }
 
-// The level of a store of n words; 7 where n is none of the seven counts. The sizes in use are asked for first.
-pub fn level_of(n: usize) -> usize
-    ensures { (result ≡ level_of n) × (result ≤ 7) }
+// The level of a store of n words, where n is one of the seven counts. The sizes in use are asked for first.
+pub fn level_of(n: usize) -> Option<usize>
+    ensures { result ≡ below 7 (level_of n) }
 {
     if n == BitAlloc4K::WORDS {
-        2
+        Some(2)
     } else if n < BitAlloc4K::WORDS {
         match n {
-            BitAlloc16::WORDS => 0,
-            BitAlloc256::WORDS => 1,
-            _ => 7,
+            BitAlloc16::WORDS => Some(0),
+            BitAlloc256::WORDS => Some(1),
+            _ => None,
         }
-    } else if n <= BitAlloc64K::WORDS {
-        if n == BitAlloc64K::WORDS { 3 } else { 7 }
+    } else if n == BitAlloc64K::WORDS {
+        Some(3)
+    } else if n < BitAlloc64K::WORDS {
+        None
     } else {
         match n {
-            BitAlloc1M::WORDS => 4,
-            BitAlloc16M::WORDS => 5,
-            BitAlloc256M::WORDS => 6,
-            _ => 7,
+            BitAlloc1M::WORDS => Some(4),
+            BitAlloc16M::WORDS => Some(5),
+            BitAlloc256M::WORDS => Some(6),
+            _ => None,
         }
     }
 }
 
 // How many positions a map of level k has.
+#[tactic(auto, unfolding(crate::specs::Sizes::cap))]
 pub fn cap_of(k: usize) -> usize
     requires { k ≤ 6 }
     ensures { (result ≡ cap k) × (result ≤ 268435456) }

@@ -1,38 +1,41 @@
 -- `image::write` meets its contract: each answer by the tests that lead to it. Assumes nothing.
-use Rattle.std.proofs.Common.{◌≡◌, ap, ◌∙◌, arith}
-use native.Mathlib.Numerals.{add-one}
-use Rattle.bitmap.specs.Answer.{given}
-use Rattle.bitmap.proofs.Stores.{sized}
-use Rattle.image.specs.Image.{start, image_length}
-use Rattle.image.proofs.Refused.{check-yes, check-no, write-no-level, write-untrue, write-short, write-done}
+use Rattle.std.proofs.Common.{ap, ◌∙◌, rules}
+use Rattle.std.specs.Prelude.{ok_or}
+use Rattle.bitmap.specs.declared.refusal.Refusal.TheVariants.{WordCount}
+use Rattle.bitmap.proofs.Stores.{none-answer}
+use Rattle.image.specs.Calls.{write_map}
+use Rattle.image.proofs.Calls.{stored}
 use Rattle.image.proofs.write.Goals as goal
 
-pub returns-then-k-eq7 : goal.returns-then-k-eq7
-returns-then-k-eq7 c =
-    let both = write-no-level c.args.store.now _ _ c.level_of-k.ensures c.if-k-eq7.true in
-    record { result_value = both.0; target_after = both.1 }
+pub returns-in_err-k : goal.returns-in_err-k
+returns-in_err-k c =
+    let no = none-answer _ _ (c.in_err-k.ensures.value ∙ ap (λ r. ok_or r WordCount) c.level_of.ensures) (write_map c.args.target.now) in
+    record { result_value = search rules; target_after = search rules }
 
-pub returns-in_default : goal.returns-in_default
-returns-in_default c =
-    let no = check-no c.args.store.now _ c.level_of-k.ensures c.if-k-eq7.false c.in_default.not-Yes c.check-truth.ensures in
-    let both = write-untrue c.args.store.now _ _ c.level_of-k.ensures c.if-k-eq7.false no in
-    record { result_value = both.0; target_after = both.1 }
+pub returns-in_err-check : goal.returns-in_err-check
+returns-in_err-check c =
+    let m = stored c.args.store.now c.args.target.now _ c.in_ok-k.ensures.value c.level_of.ensures in
+    absurd (m.told-all c.in_err-check.ensures)
+
+pub returns-then-not-branch : goal.returns-then-not-branch
+returns-then-not-branch c =
+    let m = stored c.args.store.now c.args.target.now _ c.in_ok-k.ensures.value c.level_of.ensures in
+    let truth = m.checked _ c.in_ok-check.ensures in
+    record { result_value = search rules; target_after = search rules }
 
 pub returns-then-target-n : goal.returns-then-target-n
 returns-then-target-n c =
-    let ends : c.start_of-n.result ≡ image_length c.level_of-k.result = c.start_of-n.ensures.0 ∙ ap start (add-one _) in
-    let yes = check-yes c.args.store.now _ c.level_of-k.ensures c.if-k-eq7.false c.in-Yes.is c.check-truth.ensures in
-    let both = write-short c.args.store.now _ _ c.level_of-k.ensures c.if-k-eq7.false yes (omega (arith, ends)) in
-    record { result_value = both.0; target_after = both.1 }
+    let m = stored c.args.store.now c.args.target.now _ c.in_ok-k.ensures.value c.level_of.ensures in
+    let truth = m.checked _ c.in_ok-check.ensures in
+    record { result_value = search rules; target_after = search rules }
 
 pub write_all-requires : goal.write_all-requires
 write_all-requires c =
-    let ends : c.start_of-n.result ≡ image_length c.level_of-k.result = c.start_of-n.ensures.0 ∙ ap start (add-one _) in
-    (omega arith, sized c.args.store.now _ c.level_of-k.ensures c.if-k-eq7.false, omega (arith, ends))
+    let m = stored c.args.store.now c.args.target.now _ c.in_ok-k.ensures.value c.level_of.ensures in
+    search rules
 
 pub returns : goal.returns
 returns c =
-    let ends : c.start_of-n.result ≡ image_length c.level_of-k.result = c.start_of-n.ensures.0 ∙ ap start (add-one _) in
-    let yes = check-yes c.args.store.now _ c.level_of-k.ensures c.if-k-eq7.false c.in-Yes.is c.check-truth.ensures in
-    let both = write-done c.args.store.now _ _ c.level_of-k.ensures c.if-k-eq7.false yes (omega (arith, ends)) c.write_all.ensures in
-    record { result_value = ap given ends ∙ both.0; target_after = both.1 }
+    let m = stored c.args.store.now c.args.target.now _ c.in_ok-k.ensures.value c.level_of.ensures in
+    let truth = m.checked _ c.in_ok-check.ensures in
+    record { result_value = search rules; target_after = search rules }

@@ -5,8 +5,8 @@ use Rattle.lines.proofs.Whole.{on-le}
 use Rattle.lines_tour.proofs.part.Goals as goal
 
 pub slice_bounds-output-end : goal.slice_bounds-output-end
-slice_bounds-output-end g c = on-le _ _ _ _ c.in-On.count _ (sym c.in-On.is ∙ c.go_on.ensures.value) c.go_on.ensures.output_after
+slice_bounds-output-end g c = on-le _ _ _ _ c.in-Ok.count _ (sym c.in-Ok.is ∙ c.go_on.ensures.value) c.go_on.ensures.output_after
 
 pub slice_bounds-write_all-end : goal.slice_bounds-write_all-end
 slice_bounds-write_all-end g c =
-    sym (length-take-le _ _ (on-le _ _ _ _ c.in-On.count _ (sym c.in-On.is ∙ c.go_on.ensures.value) c.go_on.ensures.output_after))
+    sym (length-take-le _ _ (on-le _ _ _ _ c.in-Ok.count _ (sym c.in-Ok.is ∙ c.go_on.ensures.value) c.go_on.ensures.output_after))

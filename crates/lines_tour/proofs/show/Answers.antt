@@ -7,8 +7,8 @@ use Rattle.lines_tour.proofs.show.Goals as goal
 
 pub slice_bounds-output-end : goal.slice_bounds-output-end
 slice_bounds-output-end g c =
-    count-le _ _ _ c.in-Bytes.n (ap says (sym c.in-Bytes.is) ∙ c.lines.ensures.result_value) c.lines.ensures.output_after
+    count-le _ _ _ c.in-Ok.n (ap says (sym c.in-Ok.is) ∙ c.lines.ensures.result_value) c.lines.ensures.output_after
 
 pub slice_bounds-write_all-end : goal.slice_bounds-write_all-end
 slice_bounds-write_all-end g c =
-    sym (length-take-le _ _ (count-le _ _ _ c.in-Bytes.n (ap says (sym c.in-Bytes.is) ∙ c.lines.ensures.result_value) c.lines.ensures.output_after))
+    sym (length-take-le _ _ (count-le _ _ _ c.in-Ok.n (ap says (sym c.in-Ok.is) ∙ c.lines.ensures.result_value) c.lines.ensures.output_after))

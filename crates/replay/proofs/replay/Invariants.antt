@@ -1,9 +1,8 @@
--- `replay::replay` is safe and ends: each line starts after the one before, and the room keeps its length. Assumes nothing.
-use Rattle.std.proofs.Common.{◌-◌, ◌≤◌, length}
+-- `replay::replay`: each line has a byte at least, so there are no more than fit, and no more differ. Assumes nothing.
+use Rattle.std.proofs.Common.{◌+◌, ◌≤◌, length}
+use Rattle.std.specs.Slice.Iter.{split_inclusive_rest}
 use Rattle.replay.proofs.replay.Given as goal
 
-abbrev pub invariant-loop-at : goal.invariant-loop-at
-invariant-loop-at g l = l.at ≤ length l.input
-
-abbrev pub decreases-loop-at : goal.decreases-loop-at
-decreases-loop-at g l = length l.input - l.at
+abbrev pub invariant-loop-line : goal.invariant-loop-line
+invariant-loop-line l =
+    (l.operations + length (split_inclusive_rest l.line-iterator) ≤ length l.input) × (l.differences ≤ l.operations)

@@ -7,6 +7,6 @@ use Rattle.words.proofs.Search.{first-end}
 use Rattle.bitmap.proofs.Refusals.{refuses}
 use Rattle.bitmap.proofs.map.next.Goals as goal
 
-pub returns-then-cap-key : goal.returns-then-cap-key
-returns-then-cap-key c = let a = c.args in
+pub returns-then-cap_of-key : goal.returns-then-cap_of-key
+returns-then-cap_of-key c = let a = c.args in
     refuses 5 _ _ (le-leb (cap a.k) _ (omega (arith, first-end (free? a.k a.s.now) a.key (cap a.k) (omega arith))))

@@ -17,13 +17,13 @@ use Rattle.change.specs.Change.{low, high}
 use Rattle.change.specs.GiveBack.{first_leaf, give_back}
 use Rattle.words.proofs.Levels.{words-pos, leaf-cap}
 use Rattle.words.proofs.Parts.{lent, back}
-use Rattle.words.proofs.Path.{level-below}
+use Rattle.words.proofs.Path.{Entered, level-below}
 use Rattle.change.proofs.Turn.{Upto, kept, lent-now, turn, turn-kept}
 use Rattle.change.proofs.Changes.{change-word}
 use Rattle.change.proofs.Walk.{Walk, walk-turns, walk-some, walk-call, walk-before, walk-enter, walk-next, walk-finish}
 use Rattle.change.proofs.GiveBacks.{given_kids, sized-given, given-kid, passed-kid, give-kids, stay-word, free-word, taken?, taken-none, taken-all, taken-true, taken-false, taken-more, taken-less}
 use Rattle.change.proofs.give_back.+old_way.Goals as goal
-use Rattle.change.proofs.give_back.+old_way.Goals.{dealloc_contiguous_old-then-ok, dealloc_contiguous_old-else-ok}
+use Rattle.change.proofs.give_back.+old_way.Goals.{dealloc_contiguous_old-In-loop-i, dealloc_contiguous_old-then-ok, dealloc_contiguous_old-else-ok}
 
 -- a turn of the loop, at child i
 module _ {k a b j end i₀ i n w v : ℕ} {s₀ s new : List ℕ} {ok ok_new : Bool} (h : Walk k a b j end i₀ i) (u : Upto j n s₀ (given_kids j s₀ a b) i₀ i s w)
@@ -43,6 +43,10 @@ module _ {k a b j end i₀ i n w v : ℕ} {s₀ s new : List ℕ} {ok ok_new : B
   passed-over free e same =
       let m = taken-false h s₀ l (sym so_far ∙ free) in
       (walk-next h l, rw e (turn-kept u at v (passed-kid j s₀ a b i m) (rw e at marked)), same ∙ free ∙ sym (taken-less h s₀ l m))
+
+-- the child of a turn is entered
+entered : {t : ℕ} (c : dealloc_contiguous_old-In-loop-i t) → Entered (c.args.k - 1) c.loop-i.s c.loop-i.i c.words_of-size.result
+entered c = let i = c.loop-i.invariant in walk-enter i.0 c.loop-i-test.true i.1.size (kept i.1)
 
 pub dealloc_contiguous_old-bounds-s-0 : goal.dealloc_contiguous_old-bounds-s-0
 dealloc_contiguous_old-bounds-s-0 t c = omega (arith, words-pos c.args.k)
@@ -80,76 +84,53 @@ dealloc_contiguous_old-loop-i-init t c =
     (h.0, h.1, sym (taken-none h.0 x.s.now refl))
 
 pub dealloc_contiguous_old-overflow_mul-from : goal.dealloc_contiguous_old-overflow_mul-from
-dealloc_contiguous_old-overflow_mul-from t c =
-    let i = c.loop-i.invariant in
-    let part = walk-enter i.0 c.loop-i-test.true i.1.size (kept i.1) in
-    omega (arith, part)
+dealloc_contiguous_old-overflow_mul-from t c = omega (arith, entered c)
 
 pub dealloc_contiguous_old-overflow_add-from : goal.dealloc_contiguous_old-overflow_add-from
-dealloc_contiguous_old-overflow_add-from t c =
-    let i = c.loop-i.invariant in
-    let part = walk-enter i.0 c.loop-i-test.true i.1.size (kept i.1) in
-    omega (arith, part)
+dealloc_contiguous_old-overflow_add-from t c = omega (arith, entered c)
 
 pub dealloc_contiguous_old-overflow_add-to : goal.dealloc_contiguous_old-overflow_add-to
-dealloc_contiguous_old-overflow_add-to t c =
-    let i = c.loop-i.invariant in
-    let part = walk-enter i.0 c.loop-i-test.true i.1.size (kept i.1) in
-    omega (arith, part)
+dealloc_contiguous_old-overflow_add-to t c = omega (arith, entered c)
 
 pub dealloc_contiguous_old-offset_bounds-s-from : goal.dealloc_contiguous_old-offset_bounds-s-from
-dealloc_contiguous_old-offset_bounds-s-from t c =
-    let i = c.loop-i.invariant in
-    let part = walk-enter i.0 c.loop-i-test.true i.1.size (kept i.1) in
-    omega (arith, part)
+dealloc_contiguous_old-offset_bounds-s-from t c = omega (arith, entered (goal.at.dealloc_contiguous_old-offset_bounds-s-from t c).In-loop-i)
 
 pub dealloc_contiguous_old-slice_bounds-dealloc_contiguous_old_below-end : goal.dealloc_contiguous_old-slice_bounds-dealloc_contiguous_old_below-end
 dealloc_contiguous_old-slice_bounds-dealloc_contiguous_old_below-end t c =
-    let i = c.loop-i.invariant in
-    let part = walk-enter i.0 c.loop-i-test.true i.1.size (kept i.1) in
-    part.ends
+    (entered (goal.at.dealloc_contiguous_old-slice_bounds-dealloc_contiguous_old_below-end t c).In-loop-i).ends
 
 pub dealloc_contiguous_old-low_of-requires : goal.dealloc_contiguous_old-low_of-requires
-dealloc_contiguous_old-low_of-requires t c =
-    let i = c.loop-i.invariant in
-    let part = walk-enter i.0 c.loop-i-test.true i.1.size (kept i.1) in
-    omega (arith, part)
+dealloc_contiguous_old-low_of-requires t c = omega (arith, entered (goal.at.dealloc_contiguous_old-low_of-requires t c).In-loop-i)
 
 pub dealloc_contiguous_old-high_of-requires : goal.dealloc_contiguous_old-high_of-requires
 dealloc_contiguous_old-high_of-requires t c =
     let i = c.loop-i.invariant in
-    let part = walk-enter i.0 c.loop-i-test.true i.1.size (kept i.1) in
+    let part = entered (goal.at.dealloc_contiguous_old-high_of-requires t c).In-loop-i in
     omega (arith, part, walk-before i.0 c.loop-i-test.true)
 
 pub dealloc_contiguous_old-dealloc_contiguous_old_below-ok-requires : goal.dealloc_contiguous_old-dealloc_contiguous_old_below-ok-requires
 dealloc_contiguous_old-dealloc_contiguous_old_below-ok-requires t c =
     let i = c.loop-i.invariant in
-    let part = walk-enter i.0 c.loop-i-test.true i.1.size (kept i.1) in
+    let part = entered (goal.at.dealloc_contiguous_old-dealloc_contiguous_old_below-ok-requires t c).In-loop-i in
     let call = walk-call i.0 c.loop-i-test.true part c.low_of.ensures c.high_of.ensures in
     (omega arith, (omega arith, call.1, call.2, call.3))
 
 pub dealloc_contiguous_old-offset_bounds-s-from-in-loop-i : goal.dealloc_contiguous_old-offset_bounds-s-from-in-loop-i
-dealloc_contiguous_old-offset_bounds-s-from-in-loop-i t c =
-    let i = c.loop-i.invariant in
-    let part = walk-enter i.0 c.loop-i-test.true i.1.size (kept i.1) in
-    omega (arith, part)
+dealloc_contiguous_old-offset_bounds-s-from-in-loop-i t c = omega (arith, entered (goal.at.dealloc_contiguous_old-offset_bounds-s-from-in-loop-i t c).In-loop-i)
 
 pub dealloc_contiguous_old-bounds-s-from : goal.dealloc_contiguous_old-bounds-s-from
 dealloc_contiguous_old-bounds-s-from t c =
     let i = c.loop-i.invariant in
-    let part = walk-enter i.0 c.loop-i-test.true i.1.size (kept i.1) in
+    let part = entered (goal.at.dealloc_contiguous_old-bounds-s-from t c).In-loop-i in
     omega (arith, kept i.1, part, words-pos (c.args.k - 1))
 
 pub dealloc_contiguous_old-with_bit-w-requires : goal.dealloc_contiguous_old-with_bit-w-requires
-dealloc_contiguous_old-with_bit-w-requires t c =
-    let i = c.loop-i.invariant in
-    let part = walk-enter i.0 c.loop-i-test.true i.1.size (kept i.1) in
-    part.at
+dealloc_contiguous_old-with_bit-w-requires t c = (entered (goal.at.dealloc_contiguous_old-with_bit-w-requires t c).In-loop-i).at
 
 pub dealloc_contiguous_old-loop-i-preserved : goal.dealloc_contiguous_old-loop-i-preserved
 dealloc_contiguous_old-loop-i-preserved t c =
     let i = c.loop-i.invariant in
-    let part = walk-enter i.0 c.loop-i-test.true i.1.size (kept i.1) in
+    let part = entered (goal.at.dealloc_contiguous_old-loop-i-preserved t c).In-loop-i in
     let l = c.loop-i-test.true in
     elim c.if-ok.branch [
       | dealloc_contiguous_old-then-ok w ↦

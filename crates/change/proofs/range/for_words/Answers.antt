@@ -3,7 +3,7 @@ use mathlib.Core.Path.{◌≡◌, refl}
 use mathlib.Core.List.{List}
 use Prim.Native.Nat.{ℕ, ◌+◌, ◌-◌, ◌*◌, ◌%◌, ◌^◌, ◌<◌}
 use native.Mathlib.Omega.{arith}
-use lib.ListN.{length, set, get_or, replicate, length-set}
+use lib.ListN.{length, set, get_or, replicate}
 use borrow.Author.Rules.{rules}
 use borrow.Rule.Slice.PartMut.{mid_of, put_mid}
 use Rattle.words.specs.declared.kind.Change.{Change}
@@ -38,86 +38,6 @@ module _ (c : Change) {s : List ℕ} {a b first last lo start v : ℕ} (h : Bord
         reach-word c h (reach-last c h (1 + first + 1) (1 + last) two at_second (omega arith) (omega arith) ef ey) h.below ew
         (omega (arith, h)) (omega (arith, h))
 
-pub start_of-requires : goal.start_of-requires
-unfolding cap
-start_of-requires c = omega arith
-
-pub bounds-s-i : goal.bounds-s-i
-unfolding cap words
-bounds-s-i c = omega arith
-
-pub change-requires : goal.change-requires
-unfolding cap
-change-requires c = omega arith
-
-pub bounds-s-i-then-first-last : goal.bounds-s-i-then-first-last
-unfolding cap words
-bounds-s-i-then-first-last c = omega arith
-
-pub bounds-s-0 : goal.bounds-s-0
-unfolding words
-bounds-s-0 c = omega (arith, length-set {A = ℕ})
-
-pub bounds-s-i-then-first-last-2 : goal.bounds-s-i-then-first-last-2
-unfolding cap words
-bounds-s-i-then-first-last-2 c = omega (arith, length-set {A = ℕ})
-
-pub with_bit-requires : goal.with_bit-requires
-unfolding cap
-with_bit-requires c = omega arith
-
-pub bounds-s-0-then-first-last : goal.bounds-s-0-then-first-last
-unfolding words
-bounds-s-0-then-first-last c = omega (arith, length-set {A = ℕ})
-
-pub bounds-s-i-2 : goal.bounds-s-i-2
-unfolding cap words
-bounds-s-i-2 c = omega arith
-
-pub change-requires-2 : goal.change-requires-2
-unfolding cap
-change-requires-2 c = omega arith
-
-pub bounds-s-i-3 : goal.bounds-s-i-3
-unfolding cap words
-bounds-s-i-3 c = omega arith
-
-pub slice_bounds-fill-end : goal.slice_bounds-fill-end
-unfolding cap words
-slice_bounds-fill-end c = omega (arith, length-set {A = ℕ})
-
-pub bounds-s-m : goal.bounds-s-m
-unfolding cap words
-bounds-s-m c = search rules
-
-pub change-requires-4 : goal.change-requires-4
-unfolding cap
-change-requires-4 c = omega arith
-
-pub bounds-s-m-2 : goal.bounds-s-m-2
-unfolding cap words
-bounds-s-m-2 c = search rules
-
-pub bounds-s-0-2 : goal.bounds-s-0-2
-unfolding cap words
-bounds-s-0-2 c = search rules
-
-pub bounds-s-i-4 : goal.bounds-s-i-4
-unfolding cap words
-bounds-s-i-4 c = search rules
-
-pub bounds-s-m-3 : goal.bounds-s-m-3
-unfolding cap words
-bounds-s-m-3 c = search rules
-
-pub change_borders-requires : goal.change_borders-requires
-unfolding cap
-change_borders-requires c = omega arith
-
-pub bounds-s-0-3 : goal.bounds-s-0-3
-unfolding cap words
-bounds-s-0-3 c = search rules
-
 pub returns-then-first-last : goal.returns-then-first-last
 returns-then-first-last c =
     let h = borders refl c.requires.1 c.requires.2 c.child_of-first.ensures c.child_of-last.ensures in
@@ -130,5 +50,5 @@ returns c =
     let h = borders refl c.requires.1 c.requires.2 c.child_of-first.ensures c.child_of-last.ensures in
     let fits : own c.args.s.now < 2 ^ 16 = search rules in
     let two : c.child_of-first.result < c.child_of-last.result = omega (arith, h) in
-    let end = at-both-ends c.args.c h c.requires.0 fits c.rest_of-low.ensures c.start_of.ensures.0 two c.change-2.ensures c.change-3.ensures c.fill.ensures c.change-4.ensures in
+    let end = at-both-ends c.args.c h c.requires.0 fits c.rest_of-low.ensures c.start_of.ensures.0 two c.change-2.ensures c.change-3.ensures (c.fill.ensures.after (λ y e. e)) c.change-4.ensures in
     store-both c.args.c h refl end two (omega arith) (omega arith) c.change_borders.ensures

@@ -5,4 +5,4 @@ use Rattle.image.proofs.bytes.count_at.Goals as goal
 
 pub returns : goal.returns
 returns c = let a = c.args in
-    omega (arith, number-four a.bytes.now a.at (omega arith))
+    omega (arith, number-four a.bytes.now a.at c.requires, c.from_le_bytes.ensures)

@@ -1,8 +1,8 @@
--- `image::bytes::word_at` meets its contract. A sum of two bytes as digits fits a word. Assumes nothing.
+-- `image::bytes::word_at` meets its contract. Assumes nothing.
 use Rattle.image.proofs.Numbers.{number-two}
 use native.Mathlib.Omega.{arith}
 use Rattle.image.proofs.bytes.word_at.Goals as goal
 
 pub returns : goal.returns
 returns c = let a = c.args in
-    omega (arith, number-two a.bytes.now a.at (omega arith))
+    omega (arith, number-two a.bytes.now a.at c.requires, c.from_le_bytes.ensures)

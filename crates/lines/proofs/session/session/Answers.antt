@@ -1,33 +1,43 @@
 -- `lines::session::session` meets its contract: what is left of the session is the whole of it. Assumes nothing.
-use Rattle.std.proofs.Common.{arith}
-use Rattle.lines.proofs.Sessions.{start as begin, line-room, on, off, finish}
+use Rattle.std.proofs.Common.{◌≡◌, refl, sym, ap, ◌∙◌, ◌<◌, ℕ, List, [], Bor, unwrap_or, length, arith, eqb-true}
+use Rattle.lines.specs.Split.{behind}
+use Rattle.lines.proofs.Numbers.{some-bytes}
+use Rattle.lines.proofs.Sessions.{start as begin, left-is, line-room, less, on, off, finish}
+use Rattle.lines.proofs.session.session.Goals.{After-cut, After-unwrap_or-rest}
 use Rattle.lines.proofs.session.session.Goals as goal
 
-pub loop-i-init : goal.loop-i-init
-loop-i-init c = begin _ _ _ _ c.requires.0
+-- a byte is left, and what is left after it
+some : (c : After-cut) → 0 < length c.loop-rest.rest.now
+some c = some-bytes _ (sym c.is_empty.ensures ∙ c.loop-rest-test.true)
+
+left : (c : After-unwrap_or-rest) → c.unwrap_or-rest.result.now ≡ unwrap_or (behind 10 c.loop-rest.rest.now) []
+left c = ap (λ (t : Bor (List ℕ)). t.now) c.unwrap_or-rest.ensures ∙ left-is c.cut.result.1 _ refl c.cut.ensures.rest
+
+pub loop-rest-init : goal.loop-rest-init
+loop-rest-init c = begin _ _ _ _ c.requires.0
 
 pub step-s-requires : goal.step-s-requires
 step-s-requires c =
-    let u = c.loop-i.invariant in
-    let e = c.find-end in
-    let q = c.requires in (
-      u.fits,
-      omega (arith, u.sized, q.1),
-      omega (arith, line-room u e.result e.ensures.0 (omega (arith, c.loop-i-test.true)) e.ensures.2, u.room, q.2),
-    )
+    let u = c.loop-rest.invariant in
+    let q = c.requires in
+    let room = line-room u c.cut.ensures.first (some (goal.at.step-s-requires c).After-cut) in
+    (u.fits, omega (arith, u.sized, q.1), omega (arith, room, u.room, q.2))
 
-pub returns-then-n-eq0 : goal.returns-then-n-eq0
-returns-then-n-eq0 c =
-    let e = c.find-end in
+pub returns-then-s-eq0 : goal.returns-then-s-eq0
+returns-then-s-eq0 c =
     let s = c.step-s in
-    off c.loop-i.invariant e.result e.ensures.0 (omega (arith, c.loop-i-test.true)) e.ensures.2 s.ensures s.auto.words s.auto.out c.if-n-eq0.true
-    c.requires.2
+    off c.loop-rest.invariant c.cut.ensures.first (some (goal.at.returns-then-s-eq0 c).After-cut) s.ensures s.auto.words s.auto.out c.if-s-eq0.true c.requires.2
 
-pub loop-i-preserved : goal.loop-i-preserved
-loop-i-preserved c =
-    let e = c.find-end in
+pub loop-rest-preserved : goal.loop-rest-preserved
+loop-rest-preserved c =
     let s = c.step-s in
-    on c.loop-i.invariant e.result e.ensures.0 (omega (arith, c.loop-i-test.true)) e.ensures.2 s.ensures s.auto.words s.auto.out c.if-n-eq0.false
+    on c.loop-rest.invariant c.cut.ensures.first (some (goal.at.loop-rest-preserved c).After-cut) s.ensures s.auto.words s.auto.out c.if-s-eq0.false
+    (left (goal.at.loop-rest-preserved c).After-unwrap_or-rest)
+
+pub loop-rest-smaller : goal.loop-rest-smaller
+loop-rest-smaller c =
+    let at = goal.at.loop-rest-smaller c in
+    omega (arith, less c.loop-rest.invariant c.cut.ensures.first (some at.After-cut), ap length (left at.After-unwrap_or-rest))
 
 pub returns : goal.returns
-returns c = finish c.loop-i.invariant c.requires.2 (omega (arith, c.loop-i-test.false))
+returns c = finish c.loop-rest.invariant c.requires.2 (eqb-true _ _ (sym c.is_empty.ensures ∙ c.loop-rest-test.false))

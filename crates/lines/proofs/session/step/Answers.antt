@@ -4,12 +4,11 @@ use lib.ListN.{get_or, length-append, length-drop}
 use lib.Seq.{take_at, length-take-le}
 use Rattle.std.proofs.lemmas.List.Edits.{sets}
 use Rattle.lines.specs.declared.read.Line.{Line}
-use Rattle.lines.specs.declared.table.Reply.{Reply}
-use Rattle.lines.specs.declared.table.Reply.TheVariants.{No}
 use Rattle.lines.specs.Line.{line_of}
-use Rattle.lines.specs.Reply.{text, replies, afters, allowed, reply_to, opened, map_after}
+use Rattle.lines.specs.Reply.{Reply, No, replied, text, replies, afters, allowed, reply_to, opened, map_after}
 use Rattle.lines.specs.Session.{renewed}
 use Rattle.lines.proofs.Replies.{Fine, reply-is, map-is, fine-is, opened-room, opened-more, opened-renewed}
+use Rattle.lines.proofs.Puts.{left, written-at}
 use Rattle.lines.proofs.Cases.{table-fine}
 use Rattle.lines.proofs.session.step.Goals as goal
 
@@ -53,20 +52,21 @@ module _ (line store : List ℕ) {n code : ℕ} {l : Line} {r : Reply} (fits : n
         × Fine r back (take n store)
     known = (sized-back, sized-all, front, mapped, fine)
 
-pub put_reply-next-requires : goal.put_reply-next-requires
-put_reply-next-requires c =
+pub put_reply-count-requires : goal.put_reply-count-requires
+put_reply-count-requires c =
     let a = c.args in
-    rw (said a.line.now a.words.now c.requires.0 c.read_line-l.ensures c.allowed-code.ensures c.answer-reply.ensures.value) c.requires.2
+    rw (said a.line.now a.words.now c.requires.0 c.read_line-l.ensures c.allowed-code.ensures c.answer-reply.ensures.value)
+    (omega (arith, ap length (left a.out.now a.from.at), length-drop a.from.at a.out.now, c.requires.2))
 
-pub open-m-requires : goal.open-m-requires
-open-m-requires c =
+pub open-n-requires : goal.open-n-requires
+open-n-requires c =
     let a = c.args in
     let d = c.answer-reply in
     let q = c.requires in
     let k =
     known a.line.now a.words.now q.0 c.read_line-l.ensures c.allowed-code.ensures d.ensures.value d.ensures.map_after d.auto.map in (
       omega (arith, k.1, q.0),
-      rw k.2 (opened-room d.result d.new.map (take a.n a.words.now) _ k.4 (omega (arith, k.1, q.1)) (omega (arith, k.0, k.1, q.0))),
+      rw k.2 (opened-room (replied d.result) d.new.map (take a.from.n a.words.now) _ k.4 (omega (arith, k.1, q.1)) (omega (arith, k.0, k.1, q.0))),
     )
 
 pub returns : goal.returns
@@ -77,14 +77,15 @@ returns c =
     let reply = said a.line.now a.words.now q.0 c.read_line-l.ensures c.allowed-code.ensures d.ensures.value in
     let k =
     known a.line.now a.words.now q.0 c.read_line-l.ensures c.allowed-code.ensures d.ensures.value d.ensures.map_after d.auto.map in
-    let count = c.open-m.ensures.value ∙ ap (λ (x : List ℕ). length (opened d.result x)) k.2 in
+    let count = c.open-n.ensures.value ∙ ap (λ (x : List ℕ). length (opened (replied d.result) x)) k.2 in
     record {
-      mapped = c.open-m.ensures.words_after
-          ∙ ap (λ (x : List ℕ). renewed (opened d.result x) (d.new.map ++ drop a.n a.words.now)) k.2
-          ∙ opened-renewed d.new.map a.words.now a.n k.0 d.result k.4
+      mapped = c.open-n.ensures.words_after
+          ∙ ap (λ (x : List ℕ). renewed (opened (replied d.result) x) (d.new.map ++ drop a.from.n a.words.now)) k.2
+          ∙ opened-renewed d.new.map a.words.now a.from.n k.0 (replied d.result) k.4
           ∙ ap (λ (x : List ℕ). renewed x a.words.now) k.3;
       count = count ∙ ap length k.3;
-      more = omega (arith, opened-more d.result d.new.map (take a.n a.words.now) k.4 d.auto.map, k.0, d.auto.map, count);
-      printed-on = c.put_reply-next.ensures.out_after ∙ ap (λ (x : Reply). sets a.out.now a.at (text x)) reply;
-      next = c.put_reply-next.ensures.value ∙ ap (λ (x : Reply). a.at + length (text x)) reply;
+      more = omega (arith, opened-more (replied d.result) d.new.map (take a.from.n a.words.now) k.4 d.auto.map, k.0, d.auto.map, count);
+      printed-on = written-at a.out.now (text (replied d.result)) a.from.at (omega (arith, ap (λ (x : Reply). length (text x)) reply, q.2)) c.put_reply-count.ensures.out_after
+          ∙ ap (λ (x : Reply). sets a.out.now a.from.at (text x)) reply;
+      next = ap (λ (k : ℕ). a.from.at + k) c.put_reply-count.ensures.value ∙ ap (λ (x : Reply). a.from.at + length (text x)) reply;
     }

@@ -1,75 +1,63 @@
--- The cycle of calls {next_node, next_below, next_children}: the key's own child is entered where its summary bit is set (`way`), and
--- then the next child of those after it (`part`). Assumes nothing.
-use Rattle.std.proofs.Common.{◌≡◌, refl, sym, ap, ◌∙◌, ℕ, suc, ◌+◌, ◌-◌, ◌*◌, ◌/◌, ◌%◌, ◌<◌, ◌≤◌, List, length, arith}
-use Rattle.words.specs.Sizes.{words, cap}
-use Rattle.words.proofs.Levels.{words-pos, cap-pos}
-use Rattle.words.proofs.Path.{Entered, enter, entered-length, level-below}
+-- The cycle of calls {next_node, next_below, next_children}: the key's own child is entered where its summary bit is set, and then the
+-- next child of those after it. Assumes nothing.
+use Rattle.std.proofs.Common.{◌≡◌, refl, sym, ap, ◌∙◌, ℕ, suc, ◌+◌, ◌-◌, ◌*◌, ◌/◌, ◌%◌, ◌<◌, arith}
+use Rattle.words.specs.Below.{below}
+use Rattle.words.specs.Sizes.{cap}
+use Rattle.words.proofs.Levels.{words-pos, cap-pos, cap-small}
+use Rattle.words.proofs.Path.{level-below}
+use Rattle.words.proofs.Below.{below-some, below-none, below-found, below-missing}
 use Rattle.look.proofs.Nexts as laws
 use Rattle.look.proofs.next.+seek.Goals as goal
+use Rattle.look.proofs.next.+seek.Goals.{next_node-then-test+in_default, next_node-else-test}
 
 -- ---- next_children: the child whose bit is the next one set is entered
-
-part : {j i at n : ℕ} {s : List ℕ} → (j ≤ 5) × (length s ≡ words (suc j)) × (i ≤ 16) → at < 16 → n ≡ words j → Entered j s at n
-part r at size = enter refl (omega arith) r.1 size at
 
 pub next_children-bounds-s-0 : goal.next_children-bounds-s-0
 next_children-bounds-s-0 t c = omega (arith, words-pos (suc c.args.j))
 
-pub next_children-returns-then-at-ge16 : goal.next_children-returns-then-at-ge16
-next_children-returns-then-at-ge16 t c =
-    c.start_of.ensures.0 ∙ sym (laws.next-none _ _ (laws.next-bit _ c.requires.2 c.change.ensures c.lowest-at.ensures) c.if-at-ge16.true)
+pub next_children-returns-in_err-at : goal.next_children-returns-in_err-at
+next_children-returns-in_err-at t c =
+    let next = laws.next-bit _ c.requires.2 c.change.ensures refl in
+    c.from_residual.ensures ∙ laws.children-none _ _ next (below-missing c.in_err-at.ensures)
 
-pub next_children-overflow_mul-a : goal.next_children-overflow_mul-a
-next_children-overflow_mul-a t c = omega (arith, part c.requires c.if-at-ge16.false c.words_of-size.ensures)
+pub next_children-next_below-requires : goal.next_children-next_below-requires
+next_children-next_below-requires t c =
+    (omega arith, (omega arith, c.child.ensures.1, cap-pos _))
 
-pub next_children-overflow_add-a : goal.next_children-overflow_add-a
-next_children-overflow_add-a t c = omega (arith, part c.requires c.if-at-ge16.false c.words_of-size.ensures)
+pub next_children-overflow_add-result : goal.next_children-overflow_add-result
+next_children-overflow_add-result t c = omega (arith, c.start_of.ensures, below-found c.in-Some.ensures, cap-small c.args.j (omega arith))
 
-pub next_children-overflow_add-e : goal.next_children-overflow_add-e
-next_children-overflow_add-e t c = omega (arith, part c.requires c.if-at-ge16.false c.words_of-size.ensures)
-
-pub next_children-offset_bounds-s-a : goal.next_children-offset_bounds-s-a
-next_children-offset_bounds-s-a t c = omega (arith, part c.requires c.if-at-ge16.false c.words_of-size.ensures)
-
-pub next_children-slice_bounds-next_below-end : goal.next_children-slice_bounds-next_below-end
-next_children-slice_bounds-next_below-end t c = (part c.requires c.if-at-ge16.false c.words_of-size.ensures).ends
-
-pub next_children-next_below-q-requires : goal.next_children-next_below-q-requires
-next_children-next_below-q-requires t c =
-    (omega arith, (omega arith, entered-length (part c.requires c.if-at-ge16.false c.words_of-size.ensures), cap-pos _))
-
-pub next_children-returns-then-q-start_of : goal.next_children-returns-then-q-start_of
-next_children-returns-then-q-start_of t c =
-    let p = part c.requires c.if-at-ge16.false c.words_of-size.ensures in
-    let is = laws.next-bit _ c.requires.2 c.change.ensures c.lowest-at.ensures in
-    ap (λ (x : ℕ). x + c.next_below-q.result) c.start_of-then-q-start_of.ensures.0
-    ∙ sym (laws.next-hit _ _ is p.at (laws.next-part p refl c.next_below-q.ensures) (omega arith))
+pub next_children-returns-in-Some : goal.next_children-returns-in-Some
+next_children-returns-in-Some t c =
+    let at = below-found c.in_ok-at.ensures in
+    let next = laws.next-bit _ c.requires.2 c.change.ensures at.0 in
+    rw c.start_of.ensures.0 (laws.children-hit _ _ next at.1 (rw c.child.ensures.0 at c.in-Some.ensures))
 
 pub next_children-next_children-requires : goal.next_children-next_children-requires
 next_children-next_children-requires t c =
-    let is = laws.next-bit _ c.requires.2 c.change.ensures c.lowest-at.ensures in
-    (omega (arith, is.from), (c.requires.0, c.requires.1, omega arith))
+    let at = below-found c.in_ok-at.ensures in
+    let next = laws.next-bit _ c.requires.2 c.change.ensures at.0 in
+    (omega (arith, next.from), (c.requires.0, c.requires.1, omega (arith, at.1)))
 
 pub next_children-returns : goal.next_children-returns
 next_children-returns t c =
-    let p = part c.requires c.if-at-ge16.false c.words_of-size.ensures in
-    let is = laws.next-bit _ c.requires.2 c.change.ensures c.lowest-at.ensures in
-    c.next_children.ensures ∙ sym (laws.next-miss _ _ is p.at (laws.next-part p refl c.next_below-q.ensures) (omega arith))
+    let at = below-found c.in_ok-at.ensures in
+    let next = laws.next-bit _ c.requires.2 c.change.ensures at.0 in
+    c.next_children.ensures ∙ laws.children-miss _ _ next at.1 (rw c.child.ensures.0 at c.in_default.ensures)
 
 -- ---- next_node: the key's own child
 
 place : {k key i : ℕ} → (k ≡ 0 → ⊥) → key < cap k → i ≡ key / cap (k - 1) → laws.Stands (k - 1) key i (key % cap (k - 1))
 place node in_map is = laws.stands _ (level-below node) in_map is
 
-way : {k key i n : ℕ} {s : List ℕ} → (k ≡ 0 → ⊥) → (k ≤ 6) × (length s ≡ words k) × (key < cap k) → i ≡ key / cap (k - 1) → n ≡ words (k - 1)
-    → Entered (k - 1) s i n
-way node r is size = enter (level-below node) r.0 r.1 size (place node r.2 is).at
-
 pub next_node-bounds-s-0 : goal.next_node-bounds-s-0
 next_node-bounds-s-0 t c = omega (arith, words-pos c.args.k)
 
-pub next_node-returns-then-k-eq0 : goal.next_node-returns-then-k-eq0
-next_node-returns-then-k-eq0 t c = c.next.ensures ∙ sym (laws.next-leaf _ _ _ c.if-k-eq0.true)
+pub next_node-returns-then-q-lt16 : goal.next_node-returns-then-q-lt16
+next_node-returns-then-q-lt16 t c = below-some c.if-q-lt16.true ∙ ap (below 16) c.next-q.ensures ∙ laws.found-leaf _ _ c.if-k-eq0.true
+
+pub next_node-returns-else-q-lt16 : goal.next_node-returns-else-q-lt16
+next_node-returns-else-q-lt16 t c = below-none c.if-q-lt16.false ∙ ap (below 16) c.next-q.ensures ∙ laws.found-leaf _ _ c.if-k-eq0.true
 
 pub next_node-bounds-s-0-2 : goal.next_node-bounds-s-0-2
 next_node-bounds-s-0-2 t c = omega (arith, words-pos c.args.k)
@@ -77,39 +65,25 @@ next_node-bounds-s-0-2 t c = omega (arith, words-pos c.args.k)
 pub next_node-test-requires : goal.next_node-test-requires
 next_node-test-requires t c = (place c.if-k-eq0.false c.requires.2 c.child_of-i.ensures).at
 
-pub next_node-overflow_mul-a : goal.next_node-overflow_mul-a
-next_node-overflow_mul-a t c = omega (arith, way c.if-k-eq0.false c.requires c.child_of-i.ensures c.words_of-size.ensures)
+pub next_node-child-requires : goal.next_node-child-requires
+next_node-child-requires t c =
+    (omega arith, rw (level-below c.if-k-eq0.false) c.requires.1, (place c.if-k-eq0.false c.requires.2 c.child_of-i.ensures).at)
 
-pub next_node-overflow_add-a : goal.next_node-overflow_add-a
-next_node-overflow_add-a t c = omega (arith, way c.if-k-eq0.false c.requires c.child_of-i.ensures c.words_of-size.ensures)
-
-pub next_node-overflow_add-e : goal.next_node-overflow_add-e
-next_node-overflow_add-e t c = omega (arith, way c.if-k-eq0.false c.requires c.child_of-i.ensures c.words_of-size.ensures)
-
-pub next_node-offset_bounds-s-a : goal.next_node-offset_bounds-s-a
-next_node-offset_bounds-s-a t c = omega (arith, way c.if-k-eq0.false c.requires c.child_of-i.ensures c.words_of-size.ensures)
-
-pub next_node-slice_bounds-next_below-end : goal.next_node-slice_bounds-next_below-end
-next_node-slice_bounds-next_below-end t c = (way c.if-k-eq0.false c.requires c.child_of-i.ensures c.words_of-size.ensures).ends
-
-pub next_node-next_below-q-requires : goal.next_node-next_below-q-requires
-next_node-next_below-q-requires t c =
+pub next_node-next_below-requires : goal.next_node-next_below-requires
+next_node-next_below-requires t c =
     let p = place c.if-k-eq0.false c.requires.2 c.child_of-i.ensures in
-    let w = way c.if-k-eq0.false c.requires c.child_of-i.ensures c.words_of-size.ensures in
-    (omega arith, (omega arith, entered-length w, rw c.rest_of.ensures p.into))
+    (omega arith, (omega arith, c.child.ensures.1, rw c.rest_of.ensures p.into))
 
 pub next_node-start_of-requires : goal.next_node-start_of-requires
 next_node-start_of-requires t c = (omega arith, omega (arith, (place c.if-k-eq0.false c.requires.2 c.child_of-i.ensures).at))
 
-pub next_node-returns-then-q-cap_of : goal.next_node-returns-then-q-cap_of
-next_node-returns-then-q-cap_of t c =
+pub next_node-returns-in-Some : goal.next_node-returns-in-Some
+next_node-returns-in-Some t c =
     let p = place c.if-k-eq0.false c.requires.2 c.child_of-i.ensures in
-    let w = way c.if-k-eq0.false c.requires c.child_of-i.ensures c.words_of-size.ensures in
     let seen = sym c.test.ensures ∙ c.if-test.true in
-    ap (λ (x : ℕ). x + c.next_below-q.result) c.start_of.ensures.0
-    ∙ sym
-    (laws.next-node _ _ (level-below c.if-k-eq0.false)
-    ∙ laws.stands-hit _ _ p seen (laws.next-part w c.rest_of.ensures c.next_below-q.ensures) (omega arith))
+    rw c.start_of.ensures.0
+    (laws.stands-hit _ _ p seen (rw (c.child.ensures.0, c.rest_of.ensures) at c.in-Some.ensures)
+    ∙ laws.found-node _ _ (level-below c.if-k-eq0.false))
 
 pub next_node-overflow_add-i : goal.next_node-overflow_add-i
 next_node-overflow_add-i t c = omega (arith, (place c.if-k-eq0.false c.requires.2 c.child_of-i.ensures).at)
@@ -124,11 +98,9 @@ pub next_node-returns : goal.next_node-returns
 next_node-returns t c =
     let p = place c.if-k-eq0.false c.requires.2 c.child_of-i.ensures in
     let bit_is = sym c.test.ensures in
-    let at = c.child_of-i.result in
-    let from = laws.next_from (c.args.k - 1) c.args.s.now in
-    let goes_on : from c.args.key ≡ from ((at + 1) * cap (c.args.k - 1)) = elim c.if-test.branch [
-      | goal.next_node-then-test+else-q-cap_of w ↦ laws.stands-miss _ _ p (bit_is ∙ w.if-test.true)
-          (laws.next-part (way c.if-k-eq0.false c.requires c.child_of-i.ensures w.words_of-size.ensures) w.rest_of.ensures w.next_below-q.ensures) (omega arith)
-      | goal.next_node-else-test w ↦ laws.stands-unseen _ _ p (bit_is ∙ w.if-test.false)
+    let from = laws.found (suc (c.args.k - 1)) c.args.s.now in
+    let goes_on : from ((c.child_of-i.result + 1) * cap (c.args.k - 1)) ≡ from c.args.key = elim c.if-test.branch [
+      | next_node-then-test+in_default w ↦ laws.stands-miss _ _ p (bit_is ∙ w.if-test.true) (rw (w.child.ensures.0, w.rest_of.ensures) at w.in_default.ensures)
+      | next_node-else-test w ↦ laws.stands-unseen _ _ p (bit_is ∙ w.if-test.false)
     ] in
-    c.next_children.ensures ∙ sym (laws.next-node _ _ (level-below c.if-k-eq0.false) ∙ goes_on)
+    c.next_children.ensures ∙ goes_on ∙ laws.found-node _ _ (level-below c.if-k-eq0.false)

@@ -10,19 +10,12 @@ loop-x-init c = laws.reached-start _ _ _ (omega arith)
 pub overflow_add-word_end : goal.overflow_add-word_end
 overflow_add-word_end c = omega (arith, laws.word-end c.loop-x.x, cap-small c.args.k c.requires.0)
 
-pub returns-then-r-b : goal.returns-then-r-b
-returns-then-r-b c =
+pub returns-then-r-word_end : goal.returns-then-r-word_end
+returns-then-r-word_end c =
     let x = c.loop-x.x in
     let found =
     laws.reached-found _ _ _ x c.loop-x.invariant c.loop-x-test.true (laws.word-end x) c.end_in_word-r.ensures c.if-r-word_end.true in
-    omega (arith, found)
-
-pub returns-else-r-b : goal.returns-else-r-b
-returns-else-r-b c =
-    let x = c.loop-x.x in
-    let found =
-    laws.reached-found _ _ _ x c.loop-x.invariant c.loop-x-test.true (laws.word-end x) c.end_in_word-r.ensures c.if-r-word_end.true in
-    omega (arith, found)
+    omega (arith, found, c.min.ensures)
 
 pub loop-x-smaller : goal.loop-x-smaller
 loop-x-smaller c = omega (arith, laws.word-end c.loop-x.x)

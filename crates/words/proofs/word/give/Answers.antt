@@ -18,6 +18,6 @@ pub returns-then-w-eq0 : goal.returns-then-w-eq0
 returns-then-w-eq0 c = let a = c.args in
     turned-is a.w _ (is a.w a.i c.ranges.w.fits c.requires) (some-no a.w c.if-w-eq0.true) (some-stored a.w a.i c.requires)
 
-pub returns : goal.returns
-returns c = let a = c.args in
+pub returns-else-w-eq0 : goal.returns-else-w-eq0
+returns-else-w-eq0 c = let a = c.args in
     turned-is a.w _ (is a.w a.i c.ranges.w.fits c.requires) (some-yes a.w c.if-w-eq0.false) (some-stored a.w a.i c.requires)

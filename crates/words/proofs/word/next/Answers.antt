@@ -1,7 +1,7 @@
 -- `words::word::next` meets its contract. What it keeps is the word without its bits below key, whose lowest is the first from key on.
 -- Assumes nothing.
 use mathlib.Core.Path.{◌≡◌, sym, ap, ◌∙◌}
-use mathlib.Core.Bool.{false, cond, ◌&&◌}
+use mathlib.Core.Bool.{false, cond, ◌&&◌, and-true, and-false}
 use Prim.Native.Nat.{ℕ, ◌+◌, ◌-◌, ◌*◌, ◌%◌, ◌^◌, ◌<◌}
 use native.Mathlib.Nat.{lt_of_le_of_lt}
 use native.Mathlib.Decide.{dec_le}
@@ -10,7 +10,6 @@ use lib.Pow.{pow-lt, pow-add}
 use lib.Bits.{bit_and, and_le_l}
 use Rattle.words.specs.declared.kind.Change.TheVariants.{Remove}
 use Rattle.words.specs.Bits.{bit, within, change_word, lowest_bit}
-use Rattle.words.proofs.Tests.{and-true, and-false}
 use Rattle.words.proofs.Search.{first-end}
 use Rattle.words.proofs.Bits.{is-pack, mask-bit, and-bit}
 use Rattle.words.proofs.Within.{within-yes, within-no}

@@ -16,6 +16,6 @@ pub returns-then-word-eq0 : goal.returns-then-word-eq0
 returns-then-word-eq0 c = let e = less-is c.args.w c.requires c.ranges.w.fits in
     turned-is c.args.w _ e (was c.args.w c.requires) (ap some (sym e) ∙ some-no _ c.if-word-eq0.true)
 
-pub returns : goal.returns
-returns c = let e = less-is c.args.w c.requires c.ranges.w.fits in
+pub returns-else-word-eq0 : goal.returns-else-word-eq0
+returns-else-word-eq0 c = let e = less-is c.args.w c.requires c.ranges.w.fits in
     turned-is c.args.w _ e (was c.args.w c.requires) (ap some (sym e) ∙ some-yes _ c.if-word-eq0.false)
