@@ -5,9 +5,9 @@ ghost use Rattle.asogeren.specs.Crossed.{crossed};
 
 use bitmap::Refusal;
 
-// What every call returns: refusal 0 and a value, or the number of the refusal and value 0.
+// What every call returns: refusal 0 and a value, or the number of the refusal and value 0. Two numbers, since C has no Result.
 #[repr(C)]
-#[derive(Clone, Copy)]
+#[derive(Clone, Copy, Debug, PartialEq, Eq)]
 pub struct Answer {
     pub refusal: u64,
     pub value: u64,
@@ -66,7 +66,7 @@ impl Value for bool {
     ghost counts = { digit };
 
     fn count(self) -> u64 {
-        if self { 1 } else { 0 }
+        u64::from(self)
     }
 }
 

@@ -1,9 +1,9 @@
 -- A give-back of one position: what it says and leaves, by what was found. Assumes nothing.
 use mathlib.Core.Path.{◌≡◌, refl, sym, ◌∙◌}
 use mathlib.Core.List.{List}
-use Prim.Native.Nat.{ℕ, ◌<◌, ◌≤◌}
+use Prim.Native.Nat.{ℕ, ◌<◌}
 use lib.ListN.{length}
-use borrow.Author.Tests.{le-leb, lt-leb}
+use borrow.Author.Tests.{lt-leb}
 use Rattle.words.specs.declared.kind.Change.TheVariants.{Insert}
 use Rattle.words.specs.Sizes.{words, cap}
 use Rattle.words.specs.Tree.{Fits, leaf?}
@@ -16,11 +16,6 @@ use Rattle.change.proofs.GiveOnes.{single-free, gives-free, gives-taken}
 use Rattle.bitmap.proofs.Refusals.{refuses, passes, settle-no, settle-on}
 
 module _ (key k : ℕ) (s : List ℕ) where
-  pub give-past : cap k ≤ key → (refused 2 ≡ give_says key k s) × (s ≡ give_after key k s)
-  give-past h =
-      let says = refuses 2 _ _ (le-leb (cap k) key h) in
-      (says, settle-no _ 2 s _ says)
-
   -- what was found, and the words after it
   module _ (l : key < cap k) (len : length s ≡ words k) (fits : Fits s) {r : Option Turn} {t : List ℕ} (found : r ≡ gives k s key) (words_are : t ≡ single Insert k s key) where
     pub give-free : r ≡ None → (refused 6 ≡ give_says key k s) × (t ≡ give_after key k s)

@@ -19,18 +19,6 @@ use Rattle.bitmap.proofs.Refusals.{refuses, passes, settle-no, settle-on}
 use Rattle.bitmap.proofs.Ranges.{range-some, range-refused, range-given, range-end}
 use Rattle.words.proofs.Levels.{cap-small}
 
--- ---- all or nothing, of the positions from a up to b
-
-module _ (k : ℕ) (s : List ℕ) (a b : ℕ) where
-  -- a leaf bit of the run is set
-  pub give-none : leb b (first_leaf k s a b) ≡ false → (false ≡ leb b (first_leaf k s a b)) × (s ≡ given_back Whole k s a b)
-  give-none e = (sym e, rw (lt-ltb (first_leaf k s a b) b (leb-false b (first_leaf k s a b) e)))
-
-  -- or none is
-  pub give-whole : {t : List ℕ} → t ≡ change Insert k s a b → leb b (first_leaf k s a b) ≡ true
-      → (true ≡ leb b (first_leaf k s a b)) × (t ≡ given_back Whole k s a b)
-  give-whole et e = (sym e, rw (le-ltb (first_leaf k s a b) b (leb-true b (first_leaf k s a b) e)) et)
-
 -- ---- the call
 
 module _ (k base size : ℕ) (s : List ℕ) where

@@ -5,18 +5,15 @@ use Prim.Native.Nat.{ℕ, ◌+◌, ◌-◌, ◌^◌, min, ◌≤◌, ◌<◌}
 use native.Mathlib.Decide.{dec_le}
 use native.Mathlib.Omega.{arith}
 use lib.Dec.{eqb, ltb}
-use borrow.Author.Tests.{lt-ltb, le-ltb, ltb-false, eq-eqb, ne_eqb, eqb-false}
+use borrow.Author.Tests.{lt-ltb, le-ltb, ltb-false, ne_eqb, eqb-false}
 use Rattle.words.specs.Sizes.{cap}
-use Rattle.words.proofs.Tests.{or-left, or-right, neither, none-of}
+use Rattle.words.proofs.Tests.{or-right, neither, none-of}
 use Rattle.words.proofs.Levels.{cap-small}
 use Rattle.bitmap.specs.Answer.{Said, given, refused, refuse}
 use Rattle.bitmap.specs.Calls.{ranged}
 use Rattle.bitmap.proofs.Refusals.{refuses, passes, given-on}
 
 module _ (k a b : ℕ) (rest : Said) where
-  pub range-behind : b < a → refused 2 ≡ ranged a b k rest
-  range-behind l = refuses 2 _ _ (or-left _ _ (lt-ltb b a l))
-
   module _ (le : a ≤ b) where
     pub range-past : cap k < b → refused 2 ≡ ranged a b k rest
     range-past l = refuses 2 _ _ (or-right _ _ (le-ltb b a le) (lt-ltb (cap k) b l))
@@ -24,9 +21,6 @@ module _ (k a b : ℕ) (rest : Said) where
     module _ (room : b ≤ cap k) where
       fits : (ltb b a || ltb (cap k) b) ≡ false
       fits = neither _ _ (le-ltb b a le) (le-ltb (cap k) b room)
-
-      pub range-empty : a ≡ b → refused 3 ≡ ranged a b k rest
-      range-empty e = passes 2 _ _ fits (refuses 3 _ _ (eq-eqb a b e))
 
       pub range-some : {x : Said} → (a ≡ b → ⊥) → x ≡ rest → x ≡ ranged a b k rest
       range-some ne e = passes 2 _ _ fits (passes 3 _ _ (ne_eqb a b ne) e)

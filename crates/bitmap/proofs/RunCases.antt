@@ -5,7 +5,7 @@ use mathlib.Core.List.{List}
 use Prim.Native.Nat.{ℕ, ◌+◌, ◌≤◌, ◌<◌}
 use native.Mathlib.Omega.{arith}
 use lib.Dec.{eqb, leb, ltb}
-use borrow.Author.Tests.{le-leb, lt-leb, leb-false, lt-ltb, le-ltb, ltb-false, eq-eqb, ne_eqb, eqb-false}
+use borrow.Author.Tests.{le-leb, lt-leb, leb-false, le-ltb, ltb-false, ne_eqb, eqb-false}
 use Rattle.words.specs.Sizes.{cap}
 use Rattle.words.specs.Tree.{free?}
 use Rattle.words.specs.Run.{run?, run_in}
@@ -16,13 +16,7 @@ use Rattle.bitmap.specs.Calls.{misplaced, found_run, run_says}
 use Rattle.bitmap.proofs.Refusals.{refuses, passes, given-on}
 
 module _ (base : Option ℕ) (size align k : ℕ) (s : List ℕ) where
-  pub run-misplaced : misplaced base align (cap k) ≡ true → refused 4 ≡ run_says base size align k s
-  run-misplaced e = refuses 4 _ _ e
-
   module _ (fits : misplaced base align (cap k) ≡ false) where
-    pub run-empty : size ≡ 0 → refused 3 ≡ run_says base size align k s
-    run-empty e = passes 4 _ _ fits (refuses 3 _ _ (eq-eqb size 0 e))
-
     pub run-some : {x : Said} → (size ≡ 0 → ⊥) → x ≡ found_run base size align k s → x ≡ run_says base size align k s
     run-some some e = passes 4 _ _ fits (passes 3 _ _ (ne_eqb size 0 some) e)
 
@@ -38,9 +32,6 @@ module _ (size align k : ℕ) (s : List ℕ) where
   -- ---- at a base
 
   module _ (b : ℕ) where
-    pub at-past : cap k < b + size → refused 2 ≡ found_run (Some b) size align k s
-    at-past l = refuses 2 _ _ (lt-ltb (cap k) (b + size) l)
-
     module _ (room : b + size ≤ cap k) where
       pub at-held : run? (free? k s) (cap k) size align b ≡ false → refused 5 ≡ found_run (Some b) size align k s
       at-held e = passes 2 _ _ (le-ltb (cap k) (b + size) room) (refuses 5 _ _ (ap not e))

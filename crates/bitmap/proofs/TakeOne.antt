@@ -1,10 +1,10 @@
 -- A take of one position: what it says and leaves. Assumes nothing.
 use mathlib.Core.Path.{◌≡◌, sym, ap, ◌∙◌}
 use mathlib.Core.List.{List}
-use Prim.Native.Nat.{ℕ, ◌+◌, ◌≤◌, ◌<◌}
+use Prim.Native.Nat.{ℕ, ◌+◌, ◌<◌}
 use native.Mathlib.Omega.{arith}
 use lib.Dec.{eqb, leb}
-use borrow.Author.Tests.{le-leb, lt-leb, eq-eqb, ne_eqb}
+use borrow.Author.Tests.{lt-leb, eq-eqb, ne_eqb}
 use Rattle.words.specs.declared.kind.Change.TheVariants.{Remove}
 use Rattle.words.specs.Sizes.{cap}
 use Rattle.words.specs.Tree.{own}
@@ -31,12 +31,6 @@ module _ (k : ℕ) (s : List ℕ) where
   module _ (ne : own s ≡ 0 → ⊥) where
     past-none : {x : Said} → x ≡ refuse 7 (leb (cap k) (lowest k s)) (given (lowest k s)) → x ≡ alloc_says k s
     past-none = passes 5 (eqb (own s) 0) _ (ne_eqb (own s) 0 ne)
-
-    -- an untrue map
-    pub take-lost : cap k ≤ lowest k s → Took k s (refused 7) s
-    take-lost h =
-        let e = past-none (refuses 7 _ _ (le-leb (cap k) (lowest k s) h)) in
-        (e, settle-no (alloc_says k s) 7 s made e)
 
     -- position p
     pub take-given : {p : ℕ} {ys : List ℕ} → lowest k s ≡ p → p < cap k → ys ≡ change Remove k s p (p + 1) → Took k s (given p) ys

@@ -86,7 +86,7 @@ fn dealloc_in(k: usize, s: &mut [u16], key: usize) -> Result<(), Refusal>
     }
 }
 
-// The same by a table of the levels in use.
+// The same by a table of the levels in use. Not by `by_level`, as `alloc`.
 pub fn dealloc(k: usize, s: &mut [u16], key: usize) -> Result<(), Refusal>
     requires { (k ≤ 6) × (length s.old ≡ words k) }
     ensures result_value { changed result ≡ give_says key k s.old }

@@ -1,4 +1,4 @@
-// How a run is given back.
+// How a run is given back: a name and no closure, since `given_back` and `given_after` of specs/Ways.antt go by it.
 
 // Whole or not at all, or the crate's way.
 #[derive(Clone, Copy)]

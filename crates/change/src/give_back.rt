@@ -45,6 +45,7 @@ pub fn dealloc_contiguous_old(k: usize, s: &mut [u16], a: usize, b: usize) -> bo
     let end = sizes::child_of(j, b - 1) + 1;
     let mut w = s[0];
     let mut ok = true;
+    // by number: the child's words, its part of the range and its bit are found by it
     for i in sizes::child_of(j, a)..end {
         let from = 1 + i * size;
         let to = from + size;
@@ -62,8 +63,8 @@ pub fn dealloc_contiguous_old(k: usize, s: &mut [u16], a: usize, b: usize) -> bo
     ok
 }
 
-// The same by a table of the levels, so that the compiled code has each level's numbers in it. No closure takes the table's place: the calls
-// go round through it, and what falls from one to the next is the level, a number.
+// The same by a table of the levels, so that the compiled code has each level's numbers in it. Not by `by_level`: a closure would be one
+// more of the cycle, with a measure and these clauses once more.
 #[cycle(old_way)]
 pub fn dealloc_contiguous_old_below(k: usize, s: &mut [u16], a: usize, b: usize) -> bool
     requires { (k ≤ 5) × (length s.old ≡ words k) × (a < b) × (b ≤ cap k) }

@@ -70,8 +70,8 @@ fn give_node(j: usize, s: &mut [u16], p: usize) -> Option<Turn>
     }
 }
 
-// The child's, by a table of the levels, so that the compiled code has each level's numbers in it. No closure takes the table's place: the
-// calls go round through it, and what falls from one to the next is the level, a number.
+// The child's, by a table of the levels, so that the compiled code has each level's numbers in it. Not by `by_level`: a closure would be one
+// more of the cycle, with a measure and these clauses once more.
 #[cycle(give_down)]
 fn give_below(k: usize, s: &mut [u16], p: usize) -> Option<Turn>
     requires { (k ≤ 5) × (length s.old ≡ words k) × (p < cap k) }

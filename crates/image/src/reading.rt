@@ -79,6 +79,7 @@ impl<'a> Image<'a> {
         requires { words self.now.level ≤ length target.old }
         ensures { target.new ≡ written 0 (map_of self.now.level self.now.bytes.now) target.old }
     {
+        // by depth and number: `word_place` goes by both
         for d in 0..self.level + 1 {
             for j in 0..layout::count_of(d) {
                 target[place::word_place(self.level, d, j)] = self.word(d, j);

@@ -17,6 +17,7 @@ pub fn write_section(k: usize, d: usize, s: &[u16], target: &mut [u8])
     let n = layout::count_of(d);
     let from = layout::start_of(d);
     bytes::put_count(target, from, n);
+    // by number: `word_place` and the place in the image go by it
     for j in 0..n {
         let w = s[place::word_place(k, d, j)];
         bytes::put_word(target, from + 4 + 2 * j, w);

@@ -127,6 +127,7 @@ fn image_of<const WORDS: usize, const BYTES: usize>(map: [u16; WORDS]) -> [u8; B
 fn changed_bytes(rt: &impl Print) -> io::Result<()> {
     show::title(rt, "an image of 2 levels with one byte changed")?;
     let image = image_of::<_, 42>(two_levels());
+    // by number: it is printed
     for p in 0..image.len() {
         let mut changed = image;
         changed[p] ^= 1;
@@ -141,6 +142,7 @@ fn changed_bytes(rt: &impl Print) -> io::Result<()> {
 // Reads each proper beginning, and says how many are refused with 8 and what is answered to the others.
 fn beginnings_of(rt: &impl Print, image: &[u8]) -> io::Result<()> {
     let mut refused = 0usize;
+    // by number: it is printed
     for n in 0..image.len() {
         let mut back = [0; BitAlloc4K::WORDS];
         let answer = image::read(&image[..n], &mut back);

@@ -71,23 +71,34 @@ module _ (input store output : List ℕ) where
         (p.1.0 ∙ ap (λ (x : List ℕ). words_on x store 0 output) read, p.1.1 ∙ ap (λ (x : List ℕ). output_on x store 0 output) read),
       )
 
--- ---- for a caller: the bytes printed are bytes of the output
+-- ---- for a caller: the bytes printed are bytes of the output, and the map's words are words
 
 renewed-le : (new old : List ℕ) → length new ≤ length (renewed new old)
 renewed-le new old = omega (arith, length-append new (drop (length new) old))
 
-pub on-le : (input store : List ℕ) (n : ℕ) (output : List ℕ) {output' : List ℕ} (at m : ℕ) → ◌≡◌ {A = Went} (Ok (at, m)) (went_on input store n output)
-    → output' ≡ output_on input store n output → at ≤ length output'
-unfolding went_on output_on
-on-le input store n output {output'} at m e o = by (short_on input store n output) e o
-  where
-    by : (b : Bool) → ◌≡◌ {A = Went} (Ok (at, m)) (cond b (Err TooShort) (Ok (length (printed_on input store n), length (map_on input store n))))
-        → output' ≡ cond b output (renewed (printed_on input store n) output) → at ≤ length output'
-    by true e o = absurd (cc)
-    by false e o =
-        let p : ◌≡◌ {A = ℕ × ℕ} (at, m) (length (printed_on input store n), length (map_on input store n)) = cc in
-        let c : at ≡ length (printed_on input store n) = ap (λ (q : ℕ × ℕ). q.0) p in
-        omega (arith, ap length o, renewed-le (printed_on input store n) output)
+-- a part that is not refused
+gone-on : (b : Bool) (at m at' m' : ℕ) → ◌≡◌ {A = Went} (Ok (at, m)) (cond b (Err TooShort) (Ok (at', m'))) → (b ≡ false) × ((at ≡ at') × (m ≡ m'))
+gone-on true at m at' m' e = absurd (cc)
+gone-on false at m at' m' e =
+    let p : ◌≡◌ {A = ℕ × ℕ} (at, m) (at', m') = cc in
+    (refl, (ap (λ (q : ℕ × ℕ). q.0) p, ap (λ (q : ℕ × ℕ). q.1) p))
+
+module _ (input store : List ℕ) (n : ℕ) (output : List ℕ) (at m : ℕ) (e : ◌≡◌ {A = Went} (Ok (at, m)) (went_on input store n output)) where
+  on : (short_on input store n output ≡ false) × ((at ≡ length (printed_on input store n)) × (m ≡ length (map_on input store n)))
+  unfolding went_on
+  on = gone-on (short_on input store n output) at m _ _ e
+
+  pub on-le : {output' : List ℕ} → output' ≡ output_on input store n output → at ≤ length output'
+  unfolding output_on
+  on-le {output'} o =
+      let w : output' ≡ renewed (printed_on input store n) output = o ∙ rw on.0 in
+      omega (arith, on.1.0, ap length w, renewed-le (printed_on input store n) output)
+
+  pub map-le : {store' : List ℕ} → store' ≡ words_on input store n output → m ≤ length store'
+  unfolding words_on
+  map-le {store'} o =
+      let w : store' ≡ renewed (map_on input store n) store = o ∙ rw on.0 in
+      omega (arith, on.1.1, ap length w, renewed-le (map_on input store n) store)
 
 pub count-le : (input store output : List ℕ) {output' : List ℕ} (n : ℕ) → given n ≡ lines_says input store output
     → output' ≡ output_on (cut input) store 0 output → n ≤ length output'

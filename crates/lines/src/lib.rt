@@ -27,8 +27,8 @@ pub fn lines(input: &[u8], words: &mut [u16], output: &mut [u8]) -> Result<usize
 }
 
 // Prints the answers to the lines of a part of an input. The first `map` words are the map's, none before the first line; the map grows in
-// the lent words, so its count stands beside them. Answers how many
-// bytes were printed and how many words the map has then. Where it has none, the first line was wrong, and it is over.
+// the lent words, so its count stands beside them. Answers how many bytes were printed and how many words the map has then. Where it has
+// none, the first line was wrong, and it is over.
 #[tactic(auto, unfolding(words::specs::Sizes::words, crate::specs::Session::went_on, crate::specs::Session::words_on, crate::specs::Session::output_on))]
 pub fn go_on(
     input: &[u8],

@@ -33,7 +33,7 @@ pub fn cut(s: &[u8], d: u8) -> (&[u8], Option<&[u8]>)
     }
 }
 
-// The value of 1 to 10 digits.
+// The value of 1 to 10 digits. By hand: std's `parse` takes a sign and any count of digits.
 fn number(s: &[u8]) -> Option<usize>
     ensures { result ≡ below none (number_of s.now) }
 {

@@ -54,6 +54,7 @@ pub fn session(input: &[u8], words: &mut [u16], map: usize, out: &mut [u8]) -> S
 {
     let mut s = State { n: map, at: 0 };
     let mut rest = input;
+    // not a `for`: what is promised of the lines goes by `before` and `behind`, as the fields of a line do
     while !rest.is_empty() {
         let (line, behind) = read::cut(rest, b'\n');
         s = step(line, s, words, out);

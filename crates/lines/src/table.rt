@@ -25,7 +25,8 @@ impl From<bool> for Reply {
     }
 }
 
-// The number in the table where the map has n words: a size opens a map where there is none, any other command needs one.
+// The number in the table, by code as document 01 has it, where the map has n words: a size opens a map where there is none, any other
+// command needs one.
 #[tactic(auto, unfolding(crate::specs::Reply::allowed))]
 pub fn allowed(n: usize, code: usize) -> usize
     ensures { result ≡ allowed n code }

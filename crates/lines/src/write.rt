@@ -18,7 +18,7 @@ fn put_text(out: &mut [u8], t: &[u8]) -> usize
     n
 }
 
-// The last k digits of n, with no 0 in front. By hand: std's writer into a slice promises no byte of what it wrote.
+// The last k digits of n, with no 0 in front. By hand: std's `write!` of a number into lent bytes promises none of them.
 fn put_digits(out: &mut [u8], k: usize, n: usize) -> usize
     requires { length (digits k n) ≤ length out.old }
     ensures value { result ≡ length (digits k n) }

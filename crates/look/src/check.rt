@@ -15,6 +15,7 @@ pub fn check(k: usize, s: &[u16]) -> bool
         return true;
     }
     let w = s[0];
+    // by number: a child's bit and its words are both found by it
     for i in 0..16 {
         let below = child(k - 1, s, i);
         if word::test(w, i) != (below[0] != 0) {

@@ -34,7 +34,8 @@ pub fn all_taken(k: usize, s: &[u16], a: usize, b: usize) -> bool
     true
 }
 
-// Whether no bit from a up to b is set, of the words in a row from `at` on.
+// Whether no bit from a up to b is set, of the words in a row from `at` on. The row is named by its place in the map, as its definition
+// names it.
 fn row_taken(s: &[u16], at: usize, a: usize, b: usize) -> bool
     requires { (a < 16) × (a < b) × (b ≤ 256) × (at * 16 + b ≤ length s.now * 16) }
     ensures { result ≡ none (row_bit s.now at) a b }

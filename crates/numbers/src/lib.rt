@@ -4,7 +4,7 @@
 ghost use Rattle.std.specs.Prelude.{◌≡◌};
 ghost use Rattle.numbers.specs.Numbers.{longer, number, number_behind, NumbersOf};
 
-// The number with one digit more; a byte below the digits is passed over.
+// The number with one digit more; a byte below the digits is passed over. By hand: a byte above them counts too, as the programs read it.
 fn longer(x: usize, digit: u8) -> usize
     ensures { result ≡ longer x digit }
 {

@@ -9,7 +9,7 @@ use bitmap::{BitAlloc1M, BitAlloc4K, BitAlloc16, BitAlloc64K, BitAlloc256, Refus
 use std::io;
 use std::io::Read;
 
-// The words of a map of so many levels; a map of other levels has none, and its calls are refused for that.
+// The words of a map of so many levels; a map of other levels has none, and its calls are made all the same and refused for that.
 fn words_of(levels: usize) -> usize
     ensures { result ≤ BitAlloc1M.WORDS }
 {
@@ -23,7 +23,7 @@ fn words_of(levels: usize) -> usize
     }
 }
 
-// The call with that code.
+// The call with that code, as the list has it.
 fn called(map: &mut [u16], code: usize, a: usize, b: usize, c: usize) -> Answer {
     match code {
         0 => asogeren::asogeren_alloc(map),
@@ -57,7 +57,11 @@ fn holds(line: &[u8], room: &mut [u16; BitAlloc1M::WORDS]) -> bool {
     let [levels, code, a, b, c, refusal, value, sum] = numbers::of_line::<8>(line);
     let map = &mut room[..words_of(levels)];
     let got = called(map, code, a, b, c);
-    got.refusal == refusal as u64 && got.value == value as u64 && checksum(map) == sum as u64
+    let recorded = Answer {
+        refusal: refusal as u64,
+        value: value as u64,
+    };
+    got == recorded && checksum(map) == sum as u64
 }
 
 // Judges each line, says which differ, and how many. It takes the runtime itself: with a type parameter, as under `impl Print`, the check

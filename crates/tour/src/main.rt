@@ -16,9 +16,11 @@ mod show;
 const READ: usize = 65536;
 
 fn main(rt: HostRuntime) -> io::Result<()> {
-    sizes(&rt)?;
+    // a read that fails is told before a write that did
+    let listed = sizes(&rt);
     let mut input = [0u8; READ];
     let n = io::copy(&mut rt.stdin().take(READ as u64), &mut &mut input[..])?;
+    listed?;
     // one word more than a map of four levels has
     let mut room = [0u16; BitAlloc64K::WORDS + 1];
     // copy doesn't say that n is no more than was to be taken
@@ -56,6 +58,7 @@ fn play(rt: &impl Print, script: &[u8], room: &mut [u16]) -> io::Result<()> {
 //   word I W     word I becomes W
 //   lent         prints the words that are lent
 //   anything else is a call, with its arguments
+// The count stands beside the room: a script may lend more than there is, and then no call is made.
 fn line(rt: &impl Print, l: &[u8], room: &mut [u16], lent: usize) -> io::Result<usize> {
     if let Some(rest) = l.strip_prefix(b"store ") {
         room.fill(0);

@@ -168,9 +168,6 @@ module _ (f : ℕ → Bool) (k n : ℕ) where
   pub first-at : k < n → f k ≡ true → first_from f k (n - k) ≡ k
   first-at l h = is-first f k (n - k) n k (omega arith) (record { from = omega arith; upto = omega arith; here = λ _. h; before = λ q m u. absurd (omega arith) })
 
-  pub first-on : k < n → f k ≡ false → first_from f k (n - k) ≡ first_from f (k + 1) (n - (k + 1))
-  first-on l h = first-skip f k (k + 1) n (omega arith) (omega arith) (λ q m u. let e : k ≡ q = omega arith in ap f (sym e) ∙ h)
-
   pub first-end : n ≤ k → first_from f k (n - k) ≡ k
   unfolding first_from
   first-end h = let z : n - k ≡ 0 = omega arith in ap (first_from f k) z

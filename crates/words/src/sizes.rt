@@ -96,7 +96,7 @@ pub fn level_of(n: usize) -> Option<usize>
     }
 }
 
-// How many positions a map of level k has.
+// How many positions a map of level k has: by the constants, which it proves to be what the definition says.
 #[tactic(auto, unfolding(crate::specs::Sizes::cap))]
 pub fn cap_of(k: usize) -> usize
     requires { k ≤ 6 }

@@ -1,13 +1,19 @@
--- `line_words::main` is safe: the bytes printed are bytes of the output. Assumes nothing.
-use mathlib.Core.Path.{sym, ap, ◌∙◌}
+-- `line_words::main` is safe: the bytes printed are bytes of the output, and the map's words are words. Assumes nothing.
+use mathlib.Core.Path.{sym, ◌∙◌}
 use lib.Seq.{length-take-le}
-use Rattle.lines.specs.Session.{says}
-use Rattle.lines.proofs.Whole.{count-le}
+use Rattle.lines.proofs.Whole.{on-le, map-le}
 use Rattle.line_words.proofs.main.Goals as goal
 
 pub slice_bounds-output-end : goal.slice_bounds-output-end
-slice_bounds-output-end c = count-le _ _ _ c.in-Ok.count (ap says (sym c.in-Ok.is) ∙ c.lines.ensures.result_value) c.lines.ensures.output_after
+slice_bounds-output-end c = on-le _ _ _ _ c.in-Ok.count _ (sym c.in-Ok.is ∙ c.go_on.ensures.value) c.go_on.ensures.output_after
 
 pub slice_bounds-write_all-end : goal.slice_bounds-write_all-end
 slice_bounds-write_all-end c =
-    sym (length-take-le _ _ (count-le _ _ _ c.in-Ok.count (ap says (sym c.in-Ok.is) ∙ c.lines.ensures.result_value) c.lines.ensures.output_after))
+    sym (length-take-le _ _ (on-le _ _ _ _ c.in-Ok.count _ (sym c.in-Ok.is ∙ c.go_on.ensures.value) c.go_on.ensures.output_after))
+
+pub slice_bounds-words-end : goal.slice_bounds-words-end
+slice_bounds-words-end c = map-le _ _ _ _ _ c.in-Ok.map (sym c.in-Ok.is ∙ c.go_on.ensures.value) c.go_on.ensures.words_after
+
+pub slice_bounds-show-end : goal.slice_bounds-show-end
+slice_bounds-show-end c =
+    sym (length-take-le _ _ (map-le _ _ _ _ _ c.in-Ok.map (sym c.in-Ok.is ∙ c.go_on.ensures.value) c.go_on.ensures.words_after))
