@@ -1,6 +1,6 @@
 // A bitmap allocator over a lent store of 16-bit words, after the Rust crate bitmap-allocator: the calls in the Rust's order.
 // Every call is total: specs/Calls.antt says what it answers and leaves in the store, for every store and every number. Each finds the
-// store's level by its word count, refuses the count or hands the map on.
+// store's level by its word count, refuses the count or hands the map on. The calls are alike and stay apart: each has a promise of its own.
 #![tactic(auto, using(crate::proofs::Stores::lent))]
 
 ghost use Rattle.std.specs.Prelude.{◌≡◌, length, ok_or};

@@ -39,7 +39,8 @@ pub fn for_range(c: Change, k: usize, s: &mut [u16], a: usize, b: usize)
     s[0] = word::change_borders(c, s[0], first, last, s[from] != 0, s[from2] != 0);
 }
 
-// The same where the children are leaf words.
+// The same where the children are leaf words. Beside `for_range`, since by that alone an insert of 20 positions takes 265 instructions for 172
+// (docs/DECISIONS.md).
 #[tactic(auto, unfolding(words::specs::Sizes::cap, words::specs::Sizes::words))]
 pub fn for_words(c: Change, s: &mut [u16], a: usize, b: usize)
     requires { (length s.old ≡ words 1) × (a < b) × (b ≤ cap 1) }

@@ -1,5 +1,5 @@
-// Words and counts as bytes, lowest byte first. Each has a pair of functions: `from_le_bytes` and `to_le_bytes` are of one number type,
-// and a function of any number of bytes would have to add them up by itself.
+// Words and counts as bytes, lowest byte first. The place stands beside the bytes: a section's start says it. Each has a pair of functions:
+// `from_le_bytes` and `to_le_bytes` are of one number type, and a function of any number of bytes would have to add them up by itself.
 ghost use Rattle.std.specs.Prelude.{◌≡◌, ◌+◌, ◌≤◌, ◌<◌, length};
 ghost use Rattle.image.specs.Bytes.{bytes_of, number_of, part, written};
 

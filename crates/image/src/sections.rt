@@ -29,6 +29,7 @@ pub fn write_all(k: usize, s: &[u16], target: &mut [u8])
     requires { (k ≤ 6) × (length s.now ≡ words k) × (image_length k ≤ length target.old) }
     ensures { target.new ≡ written 0 (image k s.now) target.old }
 {
+    // by depth: `write_section` goes by it
     for d in 0..k + 1 {
         write_section(k, d, s, target);
     }

@@ -17,7 +17,7 @@ fn say(rt: &HostRuntime, text: &[u8]) {
     let _ = rt.stderr().write_all(text);
 }
 
-// The words that a map can have, how many of them it has, none before the first line, and the room for the answers.
+// The words that a map can have, how many of them it has, 0 before the first line as `go_on` promises it, and the room for the answers.
 #[derive(Drop)]
 struct Session<'a> {
     words: &'a mut [u16],

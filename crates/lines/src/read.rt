@@ -5,7 +5,8 @@ ghost use Rattle.lines.specs.Number.{none, number_of};
 ghost use Rattle.lines.specs.Line.{code_of, other, line_of};
 ghost use Rattle.words.specs.Below.{below};
 
-// A line read. The code is 1 to 4 for `size 1` to `size 4`, 5 to 15 for the eleven commands, 0 for a line of another form.
+// A line read. Its code is a number, as the table of cases goes by it (document 01): 1 to 4 for `size 1` to `size 4`, 5 to 15 for the
+// eleven commands, 0 for a line of another form.
 #[derive(Clone, Copy)]
 pub struct Line {
     pub code: usize,

@@ -38,7 +38,7 @@ pub fn allowed(n: usize, code: usize) -> usize
     }
 }
 
-// The table: 1 to 4 are the sizes, 5 to 15 the commands, and everything else is refused.
+// The table, one match on one number as document 01 has it: 1 to 4 are the sizes, 5 to 15 the commands, and everything else is refused.
 #[tactic(auto, unfolding(crate::specs::Reply::replies, crate::specs::Reply::afters, words::specs::Sizes::cap, words::specs::Sizes::words))]
 pub fn answer(code: usize, l: Line, map: &mut [u16]) -> Result<Reply, Refusal>
     ensures value { replied result ≡ get_or (replies l.a l.b l.c map.old) code (No 10) }

@@ -20,7 +20,7 @@ fn no_lines(rt: &impl Print) -> io::Result<()> {
     show(rt, "two line ends", b"\n\n")
 }
 
-// Each is answered `no 10`, and nothing after it is read.
+// Each is answered `no 10`, and nothing after it is read. A list of cases, each with its own text, here and below.
 fn wrong_first_lines(rt: &impl Print) -> io::Result<()> {
     show(rt, "size 0", b"size 0\ntake\n")?;
     show(rt, "size 5", b"size 5\ntake\n")?;

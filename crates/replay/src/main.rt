@@ -70,6 +70,7 @@ fn replay(rt: &HostRuntime, input: &[u8], room: &mut [u16; BitAlloc1M::WORDS]) -
     let mut operations = 0u64;
     let mut differences = 0u64;
     for line in input.split_inclusive(|b| *b == b'\n') {
+        // counted here: it is the number of the line, and at the end that of all
         operations += 1;
         if !holds(line, room) {
             println!(rt; "line {operations} differs")?;

@@ -22,7 +22,7 @@ pub fn call(rt: &impl Print, line: &[u8], s: &mut [u16]) -> io::Result<()> {
     }
 }
 
-// The calls in the Rust's order; of two names the longer first.
+// The calls in the Rust's order; of two names the longer first. A list of cases, each with its own call.
 fn made(line: &[u8], s: &mut [u16]) -> Answer {
     if let Some(rest) = line.strip_prefix(b"alloc_contiguous any ") {
         let [size, align_log2] = numbers::of_line::<2>(rest);

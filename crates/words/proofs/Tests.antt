@@ -17,9 +17,6 @@ and-both false b h = absurd (true≢false (sym h))
 
 -- ---- either of two tests, and neither
 
-pub or-left : (a b : Bool) → a ≡ true → (a || b) ≡ true
-or-left a b e = rw e
-
 pub or-right : (a b : Bool) → a ≡ false → b ≡ true → (a || b) ≡ true
 or-right a b e h = rw (e, h)
 

@@ -100,7 +100,7 @@ pub fn take(w: u16) -> Turned
     Turned { word, turn }
 }
 
-// A single give-back: the word with bit i set, and how it turned.
+// A single give-back: the word with bit i set, and how it turned. Not one function with `take`: the bit and the turn differ.
 pub fn give(w: u16, i: usize) -> Turned
     requires { i < 16 }
     ensures { result ≡ turned w (word_of (λ j. cond (eqb j i) true (bit w j))) }
