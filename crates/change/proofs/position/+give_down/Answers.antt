@@ -1,11 +1,12 @@
 -- The proof of the cycle of calls {position::give_below, position::give_node}. The measure is 2 k for the table at level k, and 2 j + 1 for
 -- a map whose children have the level j. What a map finds is what its child found, unless that turned (`GiveOnes`). Assumes nothing.
-use mathlib.Core.Path.{refl, sym, ap, ◌∙◌}
+use mathlib.Core.Path.{◌≡◌, refl, sym, ap, ◌∙◌}
 use Rattle.std.proofs.Common.{Some}
 use Prim.Native.Nat.{ℕ}
 use native.Mathlib.Nat.{mod-lt}
 use native.Mathlib.Omega.{arith}
 use borrow.Author.Rules.{rules}
+use Rattle.words.specs.declared.turn.Turn.TheVariants.{BecameNotEmpty}
 use Rattle.words.proofs.Levels.{cap-pos}
 use Rattle.words.proofs.Path.{Entered, enter, entered-length, position-child}
 use Rattle.change.proofs.GiveOnes.{Returned, own-there, node-stayed, node-turned}
@@ -74,5 +75,5 @@ give_node-returns-in-BecameNotEmpty t c =
 pub give_node-returns-in_default : goal.give_node-returns-in_default
 give_node-returns-in_default t c =
     let h = returned (goal.at.give_node-returns-in_default t c).After-give_below in
-    let n = node-stayed h (λ z. c.in_default.not-BecameNotEmpty (cc (z, c.in_ok-turn.was))) in
+    let n = node-stayed h (λ z. let became : c.in_ok-turn.turn ≡ BecameNotEmpty = cc (z, c.in_ok-turn.was) in search rules) in
     record { value = sym c.in_ok-turn.was ∙ n.0; s_after = n.1 }
