@@ -2,7 +2,10 @@
 // All the work is in the crate lines. Where there is no map, no word is printed.
 #![tactic(auto)]
 
-use bitmap::BitAlloc64K;
+ghost use Rattle.std.specs.Prelude.{◌≡◌};
+ghost use Rattle.lines.specs.Session.{cut, went_on, words_on, output_on};
+
+use bitmap::{BitAlloc64K, Refusal};
 use std::io;
 use std::io::Read;
 
@@ -19,13 +22,24 @@ fn main(rt: HostRuntime) -> io::Result<()> {
     let input = &input[..READ.min(n as usize)];
     let mut words = [0u16; BitAlloc64K::WORDS];
     let mut output = [0u8; PRINTED];
-    if let Ok((count, map)) = lines::go_on(input, &mut words, 0, &mut output) {
+    if let Ok((count, map)) = play(input, &mut words, &mut output) {
         rt.write_all(&output[..count])?;
         if map != 0 {
             show(&rt, &words[..map])?;
         }
     }
     Ok(())
+}
+
+// Plays a script's first bytes, as many as the line program reads, as one part and from no map. The contract is here since none can say
+// what main reads and prints.
+fn play(script: &[u8], words: &mut [u16], output: &mut [u8]) -> Result<(usize, usize), Refusal>
+    ensures value { result ≡ went_on (cut script.now) words.old 0 output.old }
+    ensures words_after { words.new ≡ words_on (cut script.now) words.old 0 output.old }
+    ensures output_after { output.new ≡ output_on (cut script.now) words.old 0 output.old }
+{
+    let n = READ.min(script.len());
+    lines::go_on(&script[..n], words, 0, output)
 }
 
 // How many words the map has, and each of them on a line of its own.
