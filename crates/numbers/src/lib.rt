@@ -1,7 +1,7 @@
 // The numbers of a line: what a program that plays a script or a list reads of each line.
 #![tactic(auto)]
 
-ghost use Rattle.std.specs.Prelude.{◌≡◌};
+ghost use Rattle.std.specs.Prelude.{◌≡◌, length};
 ghost use Rattle.numbers.specs.Numbers.{longer, number, number_behind, NumbersOf};
 
 // The number with one digit more; a byte below the digits is passed over. By hand: a byte above them counts too, as the programs read it.
@@ -32,8 +32,10 @@ fn number_behind(line: &[u8], spaces: usize) -> usize
 }
 
 // The numbers of the first N parts of a line, which spaces stand between; 0 for each part that it doesn't have.
+// How many there are is a clause too, since a proof from the contract alone has the array as a list of any length.
 pub fn of_line<const N: usize>(line: &[u8]) -> [usize; N]
-    ensures { NumbersOf N line.now result }
+    ensures value { NumbersOf N line.now result }
+    ensures len { length result ≡ N }
 {
     std::array::from_fn(|k| number_behind(line, k))
 }
