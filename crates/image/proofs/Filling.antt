@@ -1,6 +1,6 @@
 -- Words put into a map by their depth, one after the other: once all are put, the target begins with the map that they make up.
 -- Assumes nothing.
-use mathlib.Core.Path.{◌≡◌, sym, ap, ◌∙◌}
+use mathlib.Core.Path.{◌≡◌, refl, sym, ap, ◌∙◌}
 use mathlib.Core.Logic.{◌⊎◌, inl, inr, ⊎_elim}
 use mathlib.Core.List.{List}
 use Prim.Native.Nat.{ℕ, ◌+◌, ◌-◌, ◌<◌, ◌≤◌}
@@ -24,6 +24,14 @@ pub record Filled (f : ℕ → ℕ → ℕ) (k : ℕ) (t u : List ℕ) (d j : �
   pub put : (h e r : ℕ) → h + e ≡ k → r < count e → (e < d) ⊎ ((e ≡ d) × (r < j)) → get_or u (place h e r) 0 ≡ f e r
 
 module _ {f : ℕ → ℕ → ℕ} {k : ℕ} {t : List ℕ} where
+  pub fill-start : words k ≤ length t → Filled f k t t 0 0
+  fill-start h = record {
+    room = h;
+    len = refl;
+    kept = λ p l. refl;
+    put = λ h e r _ _ w. ⊎_elim (λ l. absurd (omega arith)) (λ w. absurd (omega arith)) w;
+  }
+
   -- one word more
   pub fill-turn : {u : List ℕ} {d j p v : ℕ} → Filled f k t u d j → d ≤ k → j < count d → p ≡ place (k - d) d j → v ≡ f d j
       → Filled f k t (set u p v) d (j + 1)
@@ -54,6 +62,21 @@ module _ {f : ℕ → ℕ → ℕ} {k : ℕ} {t : List ℕ} where
             rw (y.0, q, below, ← ep, ← ev) (get_or-set_same u p v 0 (omega (arith, here, h.room, h.len)))
         | no q ↦ other b e r es re (inr (y.0, omega arith))
       ]) w
+
+  -- one depth more
+  pub fill-next : {u : List ℕ} {d j : ℕ} → Filled f k t u d j → count d ≤ j → Filled f k t u (d + 1) 0
+  fill-next {u} {d} {j} h all = record {
+    room = h.room;
+    len = h.len;
+    kept = h.kept;
+    put = λ b e r es re w. h.put b e r es re (⊎_elim (λ y. last e r re y) (λ (y : (e ≡ d + 1) × (r < 0)). absurd (omega arith)) w);
+  }
+    where
+      last : (e r : ℕ) → r < count e → e < d + 1 → (e < d) ⊎ ((e ≡ d) × (r < j))
+      last e r re y = elim (ℕ_discrete e d) [
+        | yes q ↦ inr (q, let inside : r < count d = rw q at re in omega arith)
+        | no q ↦ inl (omega arith)
+      ]
 
   -- all depths
   pub fill-end : {u : List ℕ} {d : ℕ} → Filled f k t u d 0 → k < d → u ≡ written 0 (map_from f k 0) t

@@ -96,7 +96,16 @@ number-four bs a h =
     rw (part-cons a 3 bs (omega arith), part-cons (suc a) 2 bs (omega arith), part-cons (suc (suc a)) 1 bs (omega arith), part-cons (suc (suc (suc a))) 0 bs (omega arith), fourth, third, second)
     (omega arith)
 
--- the bytes of a word and of a number of 4 bytes, as std has them
+-- the bytes of a number's two halves are its own
+pub bytes-four : (v : ℕ) → bytes_of 2 (v % 65536) ++ bytes_of 2 (v / 65536) ≡ bytes_of 4 v
+unfolding bytes_of
+bytes-four v =
+    let first : v % 65536 % 256 ≡ v % 256 = omega arith in
+    let second : v % 65536 / 256 % 256 ≡ v / 256 % 256 = omega arith in
+    let third : v / 65536 ≡ v / 256 / 256 = omega arith in
+    rw (first, second, third)
+
+-- the bytes of a word and of a number of 4 bytes, as std has them; of the number by its halves
 pub two-bytes : (w : ℕ) → to_le_bytes w16 w ≡ bytes_of 2 w
 unfolding bytes_of
 two-bytes w = refl
@@ -104,9 +113,11 @@ two-bytes w = refl
 pub four-bytes : (n : ℕ) → to_le_bytes w32 n ≡ bytes_of 4 n
 unfolding bytes_of
 four-bytes n =
-    let third : n / 65536 ≡ n / 256 / 256 = omega arith in
-    let fourth : n / 16777216 ≡ n / 256 / 256 / 256 = omega arith in
-    rw (third, fourth)
+    let first : n % 65536 % 256 ≡ n % 256 = omega arith in
+    let second : n % 65536 / 256 % 256 ≡ n / 256 % 256 = omega arith in
+    let fourth : n / 16777216 ≡ n / 65536 / 256 = omega arith in
+    let halves : to_le_bytes w32 n ≡ bytes_of 2 (n % 65536) ++ bytes_of 2 (n / 65536) = rw (first, second, fourth) in
+    halves ∙ bytes-four n
 
 -- ---- words as bytes
 

@@ -4,14 +4,20 @@
 use Prim.Native.Nat.{◌<◌}
 use Rattle.words.specs.Place.{count}
 use Rattle.image.specs.Reading.{map_of}
-use Rattle.image.proofs.Filling.{fill-turn, fill-end}
+use Rattle.image.proofs.Filling.{fill-start, fill-turn, fill-next, fill-end}
 use native.Mathlib.Omega.{arith}
 use Rattle.image.proofs.reading.Image.read_to.Goals as goal
+
+pub loop-d-init : goal.loop-d-init
+loop-d-init c = (omega arith, fill-start c.requires)
 
 pub loop-j-preserved : goal.loop-j-preserved
 loop-j-preserved c =
     let inside : c.loop-j.j < count c.loop-d.d = omega arith in
     (omega arith, λ t h. fill-turn (c.loop-j.invariant.1 t h) (omega arith) inside c.word_place.ensures.0 c.word.ensures)
+
+pub loop-d-preserved : goal.loop-d-preserved
+loop-d-preserved c = (omega arith, fill-next (c.loop-j.invariant.1 _ c.loop-d.invariant.1) (omega arith))
 
 pub returns : goal.returns
 unfolding map_of
