@@ -55,11 +55,15 @@ pub fn next_children(j: usize, s: &[u16], i: usize) -> Option<usize>
     ensures { result ≡ below (cap (suc j)) (next_in (free? (suc j) s.now) (cap (suc j)) (i * cap j)) }
 {
     let w = s[0];
-    let at = lowest_in(word::change(Change::Remove, w, 0, i))?;
-    if let Some(q) = next_below(j, child(j, s, at), 0) {
-        return Some(sizes::start_of(j, at) + q);
+    let mut from = i;
+    // not a `for`: a turn goes on behind the child that it looked into
+    while let Some(at) = lowest_in(word::change(Change::Remove, w, 0, from)) {
+        if let Some(q) = next_below(j, child(j, s, at), 0) {
+            return Some(sizes::start_of(j, at) + q);
+        }
+        from = at + 1;
     }
-    next_children(j, s, at + 1)
+    None
 }
 
 // The look-up from outside of the recursion, by a table of its own: entered by `next_below` the recursion is not unfolded.

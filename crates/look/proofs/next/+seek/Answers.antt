@@ -15,35 +15,35 @@ use Rattle.look.proofs.next.+seek.Goals.{next_node-then-test+in_default, next_no
 pub next_children-bounds-s-0 : goal.next_children-bounds-s-0
 next_children-bounds-s-0 t c = omega (arith, words-pos (suc c.args.j))
 
-pub next_children-returns-in_err-at : goal.next_children-returns-in_err-at
-next_children-returns-in_err-at t c =
-    let next = laws.next-bit _ c.requires.2 c.change.ensures refl in
-    c.from_residual.ensures ∙ laws.children-none _ _ next (below-missing c.in_err-at.ensures)
-
+-- the child that a turn looks into is the next one seen from `from` on
 pub next_children-next_below-requires : goal.next_children-next_below-requires
 next_children-next_below-requires t c =
     (omega arith, (omega arith, c.child.ensures.1, cap-pos _))
 
 pub next_children-overflow_add-result : goal.next_children-overflow_add-result
-next_children-overflow_add-result t c = omega (arith, c.start_of.ensures, below-found c.in-Some.ensures, cap-small c.args.j (omega arith))
+next_children-overflow_add-result t c = omega (arith, c.start_of.ensures, below-found c.in-Some-next_below.ensures, cap-small c.args.j (omega arith))
 
-pub next_children-returns-in-Some : goal.next_children-returns-in-Some
-next_children-returns-in-Some t c =
-    let at = below-found c.in_ok-at.ensures in
-    let next = laws.next-bit _ c.requires.2 c.change.ensures at.0 in
-    rw c.start_of.ensures.0 (laws.children-hit _ _ next at.1 (rw c.child.ensures.0 at c.in-Some.ensures))
+pub next_children-returns-in-Some-next_below : goal.next_children-returns-in-Some-next_below
+next_children-returns-in-Some-next_below t c =
+    let at = below-found c.in-Some.ensures in
+    let next = laws.next-bit _ c.loop-at.invariant.0 c.change.ensures at.0 in
+    rw c.start_of.ensures.0 (laws.children-hit _ _ next at.1 (rw c.child.ensures.0 at c.in-Some-next_below.ensures) ∙ c.loop-at.invariant.1)
 
-pub next_children-next_children-requires : goal.next_children-next_children-requires
-next_children-next_children-requires t c =
-    let at = below-found c.in_ok-at.ensures in
-    let next = laws.next-bit _ c.requires.2 c.change.ensures at.0 in
-    (omega (arith, next.from), (c.requires.0, c.requires.1, omega (arith, at.1)))
+pub next_children-loop-at-smaller : goal.next_children-loop-at-smaller
+next_children-loop-at-smaller t c =
+    let at = below-found c.in-Some.ensures in
+    omega (arith, at.1, (laws.next-bit _ c.loop-at.invariant.0 c.change.ensures at.0).from)
+
+pub next_children-loop-at-preserved : goal.next_children-loop-at-preserved
+next_children-loop-at-preserved t c =
+    let at = below-found c.in-Some.ensures in
+    let next = laws.next-bit _ c.loop-at.invariant.0 c.change.ensures at.0 in
+    (omega (arith, at.1), laws.children-miss _ _ next at.1 (rw c.child.ensures.0 at c.in_default-next_below.ensures) ∙ c.loop-at.invariant.1)
 
 pub next_children-returns : goal.next_children-returns
 next_children-returns t c =
-    let at = below-found c.in_ok-at.ensures in
-    let next = laws.next-bit _ c.requires.2 c.change.ensures at.0 in
-    c.next_children.ensures ∙ laws.children-miss _ _ next at.1 (rw c.child.ensures.0 at c.in_default.ensures)
+    let next = laws.next-bit _ c.loop-at.invariant.0 c.change.ensures refl in
+    laws.children-none _ _ next (below-missing c.in_default.ensures) ∙ c.loop-at.invariant.1
 
 -- ---- next_node: the key's own child
 
