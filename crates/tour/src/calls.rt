@@ -18,7 +18,7 @@ pub fn call(rt: &impl Print, line: &[u8], s: &mut [u16]) -> io::Result<()> {
     show::answer(rt, answer)?;
     match answer {
         Answer::Take(_) | Answer::Change(_) => show::words(rt, s),
-        Answer::Look(_) | Answer::Test(_) => println!(rt; ""),
+        Answer::Look(_) | Answer::Test(_) => rt.write_all(b"\n"),
     }
 }
 

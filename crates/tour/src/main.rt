@@ -28,7 +28,7 @@ fn main(rt: HostRuntime) -> io::Result<()> {
 }
 
 fn sizes(rt: &impl Print) -> io::Result<()> {
-    println!(rt; "-- the sizes")?;
+    rt.write_all(b"-- the sizes\n")?;
     for (name, cap, words) in [
         ("BitAlloc16", BitAlloc16::CAP, BitAlloc16::WORDS),
         ("BitAlloc256", BitAlloc256::CAP, BitAlloc256::WORDS),
@@ -82,7 +82,7 @@ fn line(rt: &impl Print, l: &[u8], room: &mut [u16], lent: usize) -> io::Result<
 // What follows a line that is printed.
 fn told(rt: &impl Print, l: &[u8], store: &mut [u16]) -> io::Result<()> {
     if l.starts_with(b"-- ") {
-        println!(rt; "")
+        rt.write_all(b"\n")
     } else if l.starts_with(b"lent") {
         print!(rt; " {}", store.len())?;
         show::words(rt, store)

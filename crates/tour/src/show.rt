@@ -9,9 +9,9 @@ const SHOWN: usize = 8;
 pub fn answer(rt: &impl Print, a: Answer) -> io::Result<()> {
     match a {
         Answer::Take(Ok(p)) | Answer::Look(Ok(p)) => print!(rt; ": at {p}"),
-        Answer::Change(Ok(())) => print!(rt; ": ok"),
-        Answer::Test(Ok(true)) => print!(rt; ": yes"),
-        Answer::Test(Ok(false)) => print!(rt; ": not"),
+        Answer::Change(Ok(())) => rt.write_all(b": ok"),
+        Answer::Test(Ok(true)) => rt.write_all(b": yes"),
+        Answer::Test(Ok(false)) => rt.write_all(b": not"),
         Answer::Take(Err(r))
         | Answer::Look(Err(r))
         | Answer::Change(Err(r))
@@ -19,16 +19,23 @@ pub fn answer(rt: &impl Print, a: Answer) -> io::Result<()> {
     }
 }
 
-// The words of a store with their places, as 3:00ff, up to the end of the line.
+// The words of a store with their places, as 3:00ff, up to the end of the line. The store is gone over once: the first are shown
+// while all are counted.
 pub fn words(rt: &impl Print, s: &[u16]) -> io::Result<()> {
-    print!(rt; " |")?;
-    for (i, w) in s.iter().enumerate().filter(|(_, w)| **w != 0).take(SHOWN) {
-        print!(rt; " {i}:{w:04x}")?;
+    rt.write_all(b" |")?;
+    let mut some = 0;
+    for (i, w) in s.iter().enumerate() {
+        if *w != 0 {
+            if some < SHOWN {
+                print!(rt; " {i}:{w:04x}")?;
+            }
+            some += 1;
+        }
     }
-    match s.iter().filter(|w| **w != 0).count() {
-        0 => print!(rt; " all 0")?,
+    match some {
+        0 => rt.write_all(b" all 0")?,
         n if SHOWN < n => print!(rt; " .. in all {n}")?,
         _ => {}
     }
-    println!(rt; "")
+    rt.write_all(b"\n")
 }
