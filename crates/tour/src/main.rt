@@ -38,7 +38,10 @@ fn sizes(rt: &impl Print) -> io::Result<()> {
         ("BitAlloc16M", BitAlloc16M::CAP, BitAlloc16M::WORDS),
         ("BitAlloc256M", BitAlloc256M::CAP, BitAlloc256M::WORDS),
     ] {
-        println!(rt; "{name} CAP {cap} WORDS {words}")?;
+        rt.write_all(name.as_bytes())?;
+        show::number(rt, b" CAP", cap)?;
+        show::number(rt, b" WORDS", words)?;
+        rt.write_all(b"\n")?;
     }
     Ok(())
 }

@@ -5,17 +5,23 @@ use std::io;
 // How many words that are not 0 a line shows at most.
 const SHOWN: usize = 8;
 
+// A text, and a number behind a space: two writes, so that an output that takes no more ends at the same piece as ever.
+pub fn number(rt: &impl Print, text: &[u8], n: usize) -> io::Result<()> {
+    rt.write_all(text)?;
+    print!(rt; " {n}")
+}
+
 // What a call answers.
 pub fn answer(rt: &impl Print, a: Answer) -> io::Result<()> {
     match a {
-        Answer::Take(Ok(p)) | Answer::Look(Ok(p)) => print!(rt; ": at {p}"),
+        Answer::Take(Ok(p)) | Answer::Look(Ok(p)) => number(rt, b": at", p),
         Answer::Change(Ok(())) => rt.write_all(b": ok"),
         Answer::Test(Ok(true)) => rt.write_all(b": yes"),
         Answer::Test(Ok(false)) => rt.write_all(b": not"),
         Answer::Take(Err(r))
         | Answer::Look(Err(r))
         | Answer::Change(Err(r))
-        | Answer::Test(Err(r)) => print!(rt; ": no {}", bitmap::number(r)),
+        | Answer::Test(Err(r)) => number(rt, b": no", bitmap::number(r)),
     }
 }
 
@@ -34,7 +40,7 @@ pub fn words(rt: &impl Print, s: &[u16]) -> io::Result<()> {
     }
     match some {
         0 => rt.write_all(b" all 0")?,
-        n if SHOWN < n => print!(rt; " .. in all {n}")?,
+        n if SHOWN < n => number(rt, b" .. in all", n)?,
         _ => {}
     }
     rt.write_all(b"\n")
