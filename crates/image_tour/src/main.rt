@@ -48,43 +48,43 @@ fn map<const WORDS: usize, const SOME: usize>(some: [(usize, u16); SOME]) -> [u1
 
 fn round_trips(rt: &impl Print) -> io::Result<()> {
     show::title(rt, "there and back, 1 to 4 levels")?;
-    there_and_back(rt, [0x8421; BitAlloc16::WORDS], [0; 6])?;
-    there_and_back(rt, two_levels(), [0; 42])?;
-    there_and_back(rt, three_levels(), [0; 558])?;
-    there_and_back(rt, four_levels(), [0; 8754])
+    there_and_back(rt, &[0x8421; BitAlloc16::WORDS], &mut [0; 6])?;
+    there_and_back(rt, &two_levels(), &mut [0; 42])?;
+    there_and_back(rt, &three_levels(), &mut [0; 558])?;
+    there_and_back(rt, &four_levels(), &mut [0; 8754])
 }
 
 // Writes the map to an image, reads what was written, and writes what was read.
 fn there_and_back<const WORDS: usize, const BYTES: usize>(
     rt: &impl Print,
-    map: [u16; WORDS],
-    mut image: [u8; BYTES],
+    map: &[u16; WORDS],
+    image: &mut [u8; BYTES],
 ) -> io::Result<()> {
     let mut back = [0; WORDS];
     let mut again = [0; BYTES];
-    print!(rt; "write")?;
-    show::answer(rt, "bytes", image::write(&map, &mut image))?;
-    print!(rt; ", read")?;
-    show::answer(rt, "levels", image::read(&image, &mut back))?;
-    show::sameness(rt, map == back)?;
-    print!(rt; ", write")?;
-    show::answer(rt, "bytes", image::write(&back, &mut again))?;
-    show::sameness(rt, image == again)?;
-    println!(rt; "")
+    rt.write_all(b"write")?;
+    show::answer(rt, b" bytes", image::write(map, image))?;
+    rt.write_all(b", read")?;
+    show::answer(rt, b" levels", image::read(image, &mut back))?;
+    show::sameness(rt, *map == back)?;
+    rt.write_all(b", write")?;
+    show::answer(rt, b" bytes", image::write(&back, &mut again))?;
+    show::sameness(rt, *image == again)?;
+    rt.write_all(b"\n")
 }
 
 // A line for a write.
 fn write_line(rt: &impl Print, map: &[u16], target: &mut [u8]) -> io::Result<()> {
-    print!(rt; "write {} words to {} bytes:", map.len(), target.len())?;
-    show::answer(rt, "bytes", image::write(map, target))?;
-    println!(rt; "")
+    show::number(rt, b"write", map.len())?;
+    show::number(rt, b" words to", target.len())?;
+    show::answer_line(rt, b" bytes:", b" bytes", image::write(map, target))
 }
 
 // A line for a read.
 fn read_line(rt: &impl Print, bytes: &[u8], target: &mut [u16]) -> io::Result<()> {
-    print!(rt; "read {} bytes to {} words:", bytes.len(), target.len())?;
-    show::answer(rt, "levels", image::read(bytes, target))?;
-    println!(rt; "")
+    show::number(rt, b"read", bytes.len())?;
+    show::number(rt, b" bytes to", target.len())?;
+    show::answer_line(rt, b" words:", b" levels", image::read(bytes, target))
 }
 
 fn refusals(rt: &impl Print) -> io::Result<()> {
@@ -132,9 +132,8 @@ fn changed_bytes(rt: &impl Print) -> io::Result<()> {
         let mut changed = image;
         changed[p] ^= 1;
         let mut back = [0; BitAlloc256::WORDS];
-        print!(rt; "byte {p}:")?;
-        show::answer(rt, "levels", image::read(&changed, &mut back))?;
-        println!(rt; "")?;
+        show::number(rt, b"byte", p)?;
+        show::answer_line(rt, b":", b" levels", image::read(&changed, &mut back))?;
     }
     Ok(())
 }
@@ -149,12 +148,12 @@ fn beginnings_of(rt: &impl Print, image: &[u8]) -> io::Result<()> {
         if answer == Err(Refusal::BadImage) {
             refused += 1;
         } else {
-            print!(rt; "first {n}:")?;
-            show::answer(rt, "levels", answer)?;
-            println!(rt; "")?;
+            show::number(rt, b"first", n)?;
+            show::answer_line(rt, b":", b" levels", answer)?;
         }
     }
-    println!(rt; "the others: no 8, {refused}")
+    show::number(rt, b"the others: no 8,", refused)?;
+    rt.write_all(b"\n")
 }
 
 fn beginnings(rt: &impl Print) -> io::Result<()> {

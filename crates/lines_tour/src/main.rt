@@ -100,8 +100,11 @@ fn part(
     }
 }
 
+// In three writes, so that an output that takes a write whole or not at all has each that fits.
 fn title(rt: &impl Print, name: &str) -> io::Result<()> {
-    println!(rt; "-- {name}")
+    rt.write_all(b"-- ")?;
+    rt.write_all(name.as_bytes())?;
+    rt.write_all(b"\n")
 }
 
 fn show(rt: &impl Print, name: &str, input: &[u8]) -> io::Result<()> {

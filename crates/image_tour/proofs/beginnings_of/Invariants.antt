@@ -3,4 +3,4 @@ use Rattle.std.proofs.Common.{◌≤◌}
 use Rattle.image_tour.proofs.beginnings_of.Given as goal
 
 abbrev pub invariant-loop-n : goal.invariant-loop-n
-invariant-loop-n g l = l.refused ≤ l.n-counter
+invariant-loop-n g l = l.refused ≤ l.n
