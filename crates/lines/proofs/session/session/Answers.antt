@@ -1,14 +1,13 @@
 -- `lines::session::session` meets its contract: what is left of the session is the whole of it. Assumes nothing.
-use Rattle.std.proofs.Common.{◌≡◌, refl, sym, ap, ◌∙◌, ◌<◌, ℕ, List, [], Bor, unwrap_or, length, arith, eqb-true}
+use Rattle.std.proofs.Common.{◌≡◌, refl, ap, ◌∙◌, ◌<◌, ℕ, List, [], Bor, unwrap_or, length, arith, tests}
 use Rattle.lines.specs.Split.{behind}
-use Rattle.lines.proofs.Numbers.{some-bytes}
 use Rattle.lines.proofs.Sessions.{start as begin, left-is, line-room, less, on, off, finish}
 use Rattle.lines.proofs.session.session.Goals.{After-cut, After-unwrap_or-rest}
 use Rattle.lines.proofs.session.session.Goals as goal
 
 -- a byte is left, and what is left after it
 some : (c : After-cut) → 0 < length c.loop-rest.rest.now
-some c = some-bytes _ (sym c.is_empty.ensures ∙ c.loop-rest-test.true)
+some c = grind (arith, tests)
 
 left : (c : After-unwrap_or-rest) → c.unwrap_or-rest.result.now ≡ unwrap_or (behind 10 c.loop-rest.rest.now) []
 left c = ap (λ (t : Bor (List ℕ)). t.now) c.unwrap_or-rest.ensures ∙ left-is c.cut.result.1 _ refl c.cut.ensures.rest
@@ -40,4 +39,4 @@ loop-rest-smaller c =
     omega (arith, less c.loop-rest.invariant c.cut.ensures.first (some at.After-cut), ap length (left at.After-unwrap_or-rest))
 
 pub returns : goal.returns
-returns c = finish c.loop-rest.invariant c.requires.2 (eqb-true _ _ (sym c.is_empty.ensures ∙ c.loop-rest-test.false))
+returns c = finish c.loop-rest.invariant c.requires.2 (grind (arith, tests))
