@@ -2,7 +2,7 @@
 // All the work is in the crate lines. Where there is no map, no word is printed.
 #![tactic(auto)]
 
-ghost use Rattle.std.specs.Prelude.{◌≡◌};
+ghost use Rattle.std.specs.Prelude.{◌≡◌, ◌≤◌, length, IfOk};
 ghost use Rattle.lines.specs.Session.{cut, went_on, words_on, output_on};
 
 use bitmap::{BitAlloc64K, Refusal};
@@ -17,18 +17,33 @@ const PRINTED: usize = 6 * READ;
 
 fn main(rt: HostRuntime) -> io::Result<()> {
     let mut input = [0u8; READ];
-    let n = io::copy(&mut rt.stdin().take(READ as u64), &mut &mut input[..])?;
-    // copy doesn't say that n is no more than was to be taken
-    let input = &input[..READ.min(n as usize)];
+    let n = read_full(&rt, &mut input)?;
     let mut words = [0u16; BitAlloc64K::WORDS];
     let mut output = [0u8; PRINTED];
-    if let Ok((count, map)) = play(input, &mut words, &mut output) {
+    if let Ok((count, map)) = play(&input[..n], &mut words, &mut output) {
         rt.write_all(&output[..count])?;
         if map != 0 {
             show(&rt, &words[..map])?;
         }
     }
     Ok(())
+}
+
+// Reads until the input ends or `to` is full; answers how many bytes came. Each read has all of the room that is left, and one that fails is
+// the end: std's `copy` reads 8,192 bytes at a time, so that of a packet what is behind them is lost, and tries an interrupted read again.
+fn read_full(rt: &HostRuntime, to: &mut [u8]) -> io::Result<usize>
+    ensures { IfOk result (λ n. n ≤ length to.old) }
+{
+    let mut have = 0;
+    // not a `for`: a turn takes in as much as one read gives
+    while have < to.len() {
+        let got = rt.stdin().read(&mut to[have..])?;
+        if got == 0 {
+            return Ok(have);
+        }
+        have += got;
+    }
+    Ok(have)
 }
 
 // Plays a script's first bytes, as many as the line program reads, as one part and from no map. The contract is here since none can say

@@ -2,7 +2,7 @@
 // Each line of the input has eight numbers: levels, call, three arguments, refusal, value, and a checksum of the words afterwards.
 #![tactic(auto)]
 
-ghost use Rattle.std.specs.Prelude.{◌≤◌};
+ghost use Rattle.std.specs.Prelude.{◌≤◌, length, IfOk};
 
 use asogeren::Answer;
 use bitmap::{BitAlloc1M, BitAlloc4K, BitAlloc16, BitAlloc64K, BitAlloc256, Refusal};
@@ -83,10 +83,26 @@ fn replay(rt: &HostRuntime, input: &[u8], room: &mut [u16; BitAlloc1M::WORDS]) -
 // How many bytes of the list are read at most.
 const READ: usize = 262144;
 
+// Reads until the input ends or `to` is full; answers how many bytes came. Each read has all of the room that is left, and one that fails is
+// the end: std's `copy` reads 8,192 bytes at a time, so that of a packet what is behind them is lost, and tries an interrupted read again.
+fn read_full(rt: &HostRuntime, to: &mut [u8]) -> io::Result<usize>
+    ensures { IfOk result (λ n. n ≤ length to.old) }
+{
+    let mut have = 0;
+    // not a `for`: a turn takes in as much as one read gives
+    while have < to.len() {
+        let got = rt.stdin().read(&mut to[have..])?;
+        if got == 0 {
+            return Ok(have);
+        }
+        have += got;
+    }
+    Ok(have)
+}
+
 fn main(rt: HostRuntime) -> io::Result<()> {
     let mut input = [0u8; READ];
-    let n = io::copy(&mut rt.stdin().take(READ as u64), &mut &mut input[..])?;
+    let n = read_full(&rt, &mut input)?;
     let mut room = [0u16; BitAlloc1M::WORDS];
-    // copy doesn't say that n is no more than was to be taken
-    replay(&rt, &input[..READ.min(n as usize)], &mut room)
+    replay(&rt, &input[..n], &mut room)
 }

@@ -3,6 +3,8 @@
 // call with its answer and, after a change, the words that are not 0.
 #![tactic(auto)]
 
+ghost use Rattle.std.specs.Prelude.{◌≤◌, length, IfOk};
+
 use bitmap::{
     BitAlloc1M, BitAlloc4K, BitAlloc16, BitAlloc16M, BitAlloc64K, BitAlloc256, BitAlloc256M,
 };
@@ -19,12 +21,28 @@ fn main(rt: HostRuntime) -> io::Result<()> {
     // a read that fails is told before a write that did
     let listed = sizes(&rt);
     let mut input = [0u8; READ];
-    let n = io::copy(&mut rt.stdin().take(READ as u64), &mut &mut input[..])?;
+    let n = read_full(&rt, &mut input)?;
     listed?;
     // one word more than a map of four levels has
     let mut room = [0u16; BitAlloc64K::WORDS + 1];
-    // copy doesn't say that n is no more than was to be taken
-    play(&rt, &input[..READ.min(n as usize)], &mut room)
+    play(&rt, &input[..n], &mut room)
+}
+
+// Reads until the input ends or `to` is full; answers how many bytes came. Each read has all of the room that is left, and one that fails is
+// the end: std's `copy` reads 8,192 bytes at a time, so that of a packet what is behind them is lost, and tries an interrupted read again.
+fn read_full(rt: &HostRuntime, to: &mut [u8]) -> io::Result<usize>
+    ensures { IfOk result (λ n. n ≤ length to.old) }
+{
+    let mut have = 0;
+    // not a `for`: a turn takes in as much as one read gives
+    while have < to.len() {
+        let got = rt.stdin().read(&mut to[have..])?;
+        if got == 0 {
+            return Ok(have);
+        }
+        have += got;
+    }
+    Ok(have)
 }
 
 fn sizes(rt: &impl Print) -> io::Result<()> {
