@@ -1,7 +1,6 @@
 -- The laws that the functions' proofs cite, and the theorems: what is printed of a number (Small), parts of an input (InParts), that they
 -- are about the code (Contracts), one answer.
 pub mod Splits
-pub mod Forms
 pub mod Numbers
 pub mod Decimal
 pub mod Fields

@@ -39,27 +39,29 @@ pub fn allowed(n: usize, code: usize) -> usize
 }
 
 // The table, one match on one number as document 01 has it: 1 to 4 are the sizes, 5 to 15 the commands, and everything else is refused.
+// Each refusal leaves by `?`: where each arm made a `Result` of its own, which was looked at again to be printed, a line took some 20
+// instructions more.
 #[tactic(auto, unfolding(crate::specs::Reply::replies, crate::specs::Reply::afters, words::specs::Sizes::cap, words::specs::Sizes::words))]
 pub fn answer(code: usize, l: Line, map: &mut [u16]) -> Result<Reply, Refusal>
     ensures value { replied result ≡ get_or (replies l.a l.b l.c map.old) code (No 10) }
     ensures map_after { map.new ≡ get_or (afters l.a l.b l.c map.old) code map.old }
 {
-    match code {
-        1 => Ok(Reply::Map(BitAlloc16::CAP, BitAlloc16::WORDS)),
-        2 => Ok(Reply::Map(BitAlloc256::CAP, BitAlloc256::WORDS)),
-        3 => Ok(Reply::Map(BitAlloc4K::CAP, BitAlloc4K::WORDS)),
-        4 => Ok(Reply::Map(BitAlloc64K::CAP, BitAlloc64K::WORDS)),
-        5 => bitmap::alloc(map).map(Reply::At),
-        6 => bitmap::alloc_contiguous(map, None, l.a, l.b).map(Reply::At),
-        7 => bitmap::alloc_contiguous(map, Some(l.a), l.b, l.c).map(Reply::At),
-        8 => bitmap::dealloc(map, l.a).map(|()| Reply::Done),
-        9 => bitmap::dealloc_contiguous(map, l.a, l.b).map(|()| Reply::Done),
-        10 => bitmap::dealloc_contiguous_old(map, l.a, l.b).map(|()| Reply::Done),
-        11 => bitmap::insert(map, l.a, l.b).map(|()| Reply::Done),
-        12 => bitmap::remove(map, l.a, l.b).map(|()| Reply::Done),
-        13 => bitmap::next(map, l.a).map(Reply::At),
-        14 => bitmap::test(map, l.a).map(Reply::from),
-        15 => bitmap::is_empty(map).map(Reply::from),
-        0 | 16.. => Err(Refusal::BadLine),
-    }
+    Ok(match code {
+        1 => Reply::Map(BitAlloc16::CAP, BitAlloc16::WORDS),
+        2 => Reply::Map(BitAlloc256::CAP, BitAlloc256::WORDS),
+        3 => Reply::Map(BitAlloc4K::CAP, BitAlloc4K::WORDS),
+        4 => Reply::Map(BitAlloc64K::CAP, BitAlloc64K::WORDS),
+        5 => Reply::At(bitmap::alloc(map)?),
+        6 => Reply::At(bitmap::alloc_contiguous(map, None, l.a, l.b)?),
+        7 => Reply::At(bitmap::alloc_contiguous(map, Some(l.a), l.b, l.c)?),
+        8 => bitmap::dealloc(map, l.a).map(|()| Reply::Done)?,
+        9 => bitmap::dealloc_contiguous(map, l.a, l.b).map(|()| Reply::Done)?,
+        10 => bitmap::dealloc_contiguous_old(map, l.a, l.b).map(|()| Reply::Done)?,
+        11 => bitmap::insert(map, l.a, l.b).map(|()| Reply::Done)?,
+        12 => bitmap::remove(map, l.a, l.b).map(|()| Reply::Done)?,
+        13 => Reply::At(bitmap::next(map, l.a)?),
+        14 => Reply::from(bitmap::test(map, l.a)?),
+        15 => Reply::from(bitmap::is_empty(map)?),
+        0 | 16.. => return Err(Refusal::BadLine),
+    })
 }
