@@ -71,7 +71,8 @@ pub fn next(k: usize, s: &[u16], key: usize) -> Result<usize, Refusal>
     next::next_node(k, s, key).ok_or(Refusal::NoneFree)
 }
 
-// Gives the position key back.
+// Gives the position key back. Inlined, so that each arm below has a level that is a constant before anything is unfolded.
+#[inline(always)]
 fn dealloc_in(k: usize, s: &mut [u16], key: usize) -> Result<(), Refusal>
     requires { (k ≤ 6) × (length s.old ≡ words k) }
     ensures result_value { changed result ≡ give_says key k s.old }
@@ -86,13 +87,15 @@ fn dealloc_in(k: usize, s: &mut [u16], key: usize) -> Result<(), Refusal>
     }
 }
 
-// The same by a table of the levels in use. Not by `by_level`, as `alloc`.
+// The same by a table of the levels in use, and of level 1, which by the last arm took twice as many instructions. Not by `by_level`, as
+// `alloc`.
 pub fn dealloc(k: usize, s: &mut [u16], key: usize) -> Result<(), Refusal>
     requires { (k ≤ 6) × (length s.old ≡ words k) }
     ensures result_value { changed result ≡ give_says key k s.old }
     ensures s_after { s.new ≡ give_after key k s.old }
 {
     match k {
+        1 => dealloc_in(1, s, key),
         2 => dealloc_in(2, s, key),
         3 => dealloc_in(3, s, key),
         4 => dealloc_in(4, s, key),

@@ -41,6 +41,8 @@ pub fn take(k: usize, s: &mut [u16], leaf: usize, p: usize)
 }
 
 // Gives the position p back in a map of level k, and tells how its own word turned; nothing where the position was free already.
+// Inlined, so that a caller that knows the level hands it on as a constant.
+#[inline(always)]
 pub fn give(k: usize, s: &mut [u16], p: usize) -> Option<Turn>
     requires { (k ≤ 6) × (length s.old ≡ words k) × (p < cap k) }
     ensures value { result ≡ gives k s.old p }
@@ -53,7 +55,9 @@ pub fn give(k: usize, s: &mut [u16], p: usize) -> Option<Turn>
 }
 
 // The same where the children have the level j: the child gives the position back, and its bit is set if its own word became not empty.
+// Inlined into the table below, which then calls none but itself, at levels that are constants.
 #[cycle(give_down)]
+#[inline(always)]
 fn give_node(j: usize, s: &mut [u16], p: usize) -> Option<Turn>
     requires { (j ≤ 5) × (length s.old ≡ words (suc j)) × (p < cap (suc j)) }
     ensures value { result ≡ gives (suc j) s.old p }
@@ -70,21 +74,22 @@ fn give_node(j: usize, s: &mut [u16], p: usize) -> Option<Turn>
     }
 }
 
-// The child's, by a table of the levels, so that the compiled code has each level's numbers in it. Not by `by_level`: a closure would be one
-// more of the cycle, with a measure and these clauses once more.
+// The child's, by a table of the levels, so that the compiled code has each level's numbers in it. The hint and the leaf as the last arm let it
+// be unfolded from level 4 down. Not by `by_level`: a closure would be one more of the cycle, with a measure and these clauses once more.
 #[cycle(give_down)]
+#[inline]
 fn give_below(k: usize, s: &mut [u16], p: usize) -> Option<Turn>
     requires { (k ≤ 5) × (length s.old ≡ words k) × (p < cap k) }
     ensures value { result ≡ gives k s.old p }
     ensures s_after { s.new ≡ single Insert k s.old p }
 {
     match k {
-        0 => give_leaf(s, p),
         1 => give_node(0, s, p),
         2 => give_node(1, s, p),
         3 => give_node(2, s, p),
         4 => give_node(3, s, p),
-        _ => give_node(4, s, p),
+        5 => give_node(4, s, p),
+        _ => give_leaf(s, p),
     }
 }
 
