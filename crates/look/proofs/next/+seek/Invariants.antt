@@ -1,6 +1,6 @@
 -- The cycle of calls {next_node, next_below, next_children}. A node at k asks its children at k - 1, by the key's own child first; the
--- children at j and i ask one of them at j, through the table, and then those after it at the same j. The measure is 20 k for a node, one
--- more for the table, and 20 j + (18 - i) for the children from i on. Assumes nothing.
+-- children at j and i ask one of them at j after the other, through the table. The measure is 20 k for a node, one more for the table, and
+-- 20 j + (18 - i) for the children from i on; that of their loop is what is left of the 16. Assumes nothing.
 use Rattle.std.proofs.Common.{◌≡◌, suc, ◌+◌, ◌-◌, ◌*◌, ◌≤◌}
 use Rattle.words.specs.Sizes.{cap}
 use Rattle.look.proofs.Nexts.{found}
